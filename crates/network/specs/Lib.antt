@@ -1,0 +1,7 @@
+-- What a least plan is, after document 000 (sections 2.1 to 2.3) and document 01. A number is a coordinate or a length in decimetres.
+pub mod Lists
+pub mod Plane
+pub mod Grid
+pub mod Hanan
+pub mod Route
+pub mod Graph

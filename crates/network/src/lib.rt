@@ -1,0 +1,1 @@
+// What a least plan is: grid, routes, union, intersection graph. Definitions (specs/) and laws (proofs/) only.
