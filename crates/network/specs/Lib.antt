@@ -5,3 +5,5 @@ pub mod Grid
 pub mod Hanan
 pub mod Route
 pub mod Graph
+pub mod Excess
+pub mod Steps
