@@ -7,3 +7,8 @@ pub mod Route
 pub mod Graph
 pub mod Excess
 pub mod Steps
+pub mod Corners
+pub mod Slopes
+pub mod Apart
+pub mod Boxes
+pub mod Sharable

@@ -1,0 +1,12 @@
+pub mod Signed
+pub mod Fields
+pub mod Decoded
+pub mod Steps
+pub mod Columns
+pub mod Progress
+pub mod Rising
+pub mod Written
+pub mod Accepted
+pub mod Answered
+pub mod Prefix
+pub mod Refused

@@ -1,0 +1,121 @@
+-- What a step says of its record: a run that is taken, and an end that is reached.
+-- Assumes nothing.
+use Prim.Native.Nat.{ℕ, _<_, _≤_}
+use mathlib.Core.Path.{_≡_, refl, sym, ap}
+use mathlib.Core.List.{List}
+use mathlib.Core.Bool.{Bool, true, false, cond, not, _&&_, and-eq-true-iff}
+use native.Mathlib.Omega.{arith}
+use borrow.Author.Tests.{ltb-true, leb-true, leb-false, ltb-false, eqb-true, eqb-false, not-false}
+use lib.Dec.{ltb, leb, eqb}
+use lib.ListN.{length}
+use Rattle.job.specs.declared.Run.{Run}
+use Rattle.job.specs.declared.Record.{Record}
+use Rattle.job.specs.declared.Record.the-variants as rec
+use Rattle.job.specs.declared.Refusal.{Refusal}
+use Rattle.job.specs.declared.Step.{Step}
+use Rattle.job.specs.declared.Step.the-variants.{Next, End, Refuse}
+use Rattle.job.specs.Parse.{follows, coordinatesIn, runStep, endStep, stepBy}
+use Rattle.job.specs.Written.{InRange}
+
+-- a step that is no refusal is the other side of a test that refuses
+passed : (b : Bool) (x : Refusal) (y v : Step) → cond b (Refuse x) y ≡ v → (Refuse x ≡ v → ⊥) → (b ≡ false) × (y ≡ v)
+passed true x y v e never = absurd (never e)
+passed false x y v e never = (refl, e)
+
+-- the three kinds of step differ
+refuse-next : (x : Refusal) (r : Run) → Refuse x ≡ Next r → ⊥
+refuse-next x r e = let z : _≡_ {A = ℕ} 0 1 = cc in omega arith
+
+refuse-end : (x : Refusal) → Refuse x ≡ End → ⊥
+refuse-end x e = let z : _≡_ {A = ℕ} 0 1 = cc in omega arith
+
+-- a run that is taken, after n others of which the last has the number last
+pub record Taken (n last : ℕ) (g : Record) (r : Run) : Type 0 where
+  pub is : g ≡ rec.Run r
+  pub below : n < 32
+  pub rises : last < r .number
+  pub range : InRange r
+
+-- a run record that is taken passes the tests of `runStep`
+taken-run : (at n last : ℕ) (q r : Run) → runStep at n last q ≡ Next r → Taken n last (rec.Run q) r
+unfolding runStep
+taken-run at n last q r e =
+    let a = passed (leb 32 n) _ _ _ e (refuse-next _ r) in
+    let b = passed (not (follows last (q .number))) _ _ _ (a .1) (refuse-next _ r) in
+    let c = passed (not (coordinatesIn q)) _ _ _ (b .1) (refuse-next _ r) in
+    let same : q ≡ r = cc (c .1) in
+    let f = and-eq-true-iff (leb 1 (q .number) && leb (q .number) 9999) (ltb last (q .number)) .0 (not-false _ (b .0)) in
+    let g = and-eq-true-iff (leb 1 (q .number)) (leb (q .number) 9999) .0 (f .0) in
+    let y2 = and-eq-true-iff (leb (q .x1) 2000000 && leb (q .y1) 2000000 && leb (q .x2) 2000000) (leb (q .y2) 2000000) .0 (not-false _ (c .0)) in
+    let x2 = and-eq-true-iff (leb (q .x1) 2000000 && leb (q .y1) 2000000) (leb (q .x2) 2000000) .0 (y2 .0) in
+    let y1 = and-eq-true-iff (leb (q .x1) 2000000) (leb (q .y1) 2000000) .0 (x2 .0) in
+    rw (← same)
+    (record {
+      is = refl;
+      below = leb-false _ _ (a .0);
+      rises = ltb-true _ _ (f .1);
+      range = record {
+        least = leb-true _ _ (g .0);
+        most = leb-true _ _ (g .1);
+        x1-in = leb-true _ _ (y1 .0);
+        y1-in = leb-true _ _ (y1 .1);
+        x2-in = leb-true _ _ (x2 .1);
+        y2-in = leb-true _ _ (y2 .1);
+      };
+    })
+
+-- an end that is reached: its count is that of the runs before it, of which there is one, and no byte comes after it
+pub record Ended (n : ℕ) (bytes : List ℕ) (g : Record) : Type 0 where
+  pub is : g ≡ rec.End n
+  pub some : 1 ≤ n
+  pub last : length bytes ≤ 3
+
+-- an end record that ends the job passes the tests of `endStep`
+ended-end : (at n count : ℕ) (bytes : List ℕ) → endStep at n count bytes ≡ End → Ended n bytes (rec.End count)
+unfolding endStep
+ended-end at n count bytes e =
+    let a = passed (not (eqb count n)) _ _ _ e (refuse-end _) in
+    let b = passed (eqb n 0) _ _ _ (a .1) (refuse-end _) in
+    let c = passed (ltb 3 (length bytes)) _ _ _ (b .1) (refuse-end _) in
+    record {
+      is = ap rec.End (eqb-true count n (not-false _ (a .0)));
+      some = let z = eqb-false n 0 (b .0) in omega (arith, z);
+      last = ltb-false _ _ (c .0);
+    }
+
+-- a run is no end
+next-end : (r : Run) → Next r ≡ End → ⊥
+next-end r e = let z : _≡_ {A = ℕ} 0 1 = cc in omega arith
+
+-- a run record does not end the job, and an end record is no run
+run-end : (at n last : ℕ) (q : Run) → runStep at n last q ≡ End → ⊥
+unfolding runStep
+run-end at n last q e =
+    let a = passed (leb 32 n) _ _ _ e (refuse-end _) in
+    let b = passed (not (follows last (q .number))) _ _ _ (a .1) (refuse-end _) in
+    next-end q (passed (not (coordinatesIn q)) _ _ _ (b .1) (refuse-end _) .1)
+
+end-next : (at n count : ℕ) (bytes : List ℕ) (r : Run) → endStep at n count bytes ≡ Next r → ⊥
+unfolding endStep
+end-next at n count bytes r e =
+    let a = passed (not (eqb count n)) _ _ _ e (refuse-next _ r) in
+    let b = passed (eqb n 0) _ _ _ (a .1) (refuse-next _ r) in
+    next-end r (sym (passed (ltb 3 (length bytes)) _ _ _ (b .1) (refuse-next _ r) .1))
+
+-- one more run is a run record that passes the tests 9, 7 and 8
+pub taken : (at n last : ℕ) (bytes : List ℕ) (g : Record) (r : Run) → stepBy at n last bytes g ≡ Next r → Taken n last g r
+unfolding stepBy
+taken at n last bytes rec.Unknown r e = absurd (refuse-next _ r e)
+taken at n last bytes rec.Cut r e = absurd (refuse-next _ r e)
+taken at n last bytes (rec.Head number) r e = absurd (refuse-next _ r e)
+taken at n last bytes (rec.Run q) r e = taken-run at n last q r e
+taken at n last bytes (rec.End count) r e = absurd (end-next at n count bytes r e)
+
+-- the end is an end record that passes the tests 6, 10 and 5
+pub ended : (at n last : ℕ) (bytes : List ℕ) (g : Record) → stepBy at n last bytes g ≡ End → Ended n bytes g
+unfolding stepBy
+ended at n last bytes rec.Unknown e = absurd (refuse-end _ e)
+ended at n last bytes rec.Cut e = absurd (refuse-end _ e)
+ended at n last bytes (rec.Head number) e = absurd (refuse-end _ e)
+ended at n last bytes (rec.Run q) e = absurd (run-end at n last q e)
+ended at n last bytes (rec.End count) e = ended-end at n count bytes e

@@ -1,0 +1,6 @@
+pub mod Fields
+pub mod Refusal
+pub mod Records
+pub mod Parse
+pub mod Reading
+pub mod Written

@@ -1,0 +1,352 @@
+// Reads a job (document 01, "Job book"): one head, then the runs, then one end.
+ghost use mathlib.Core.Path.{_≡_};
+ghost use mathlib.Core.List.{List, [], _∷_, _++_};
+ghost use Prim.Native.Nat.{ℕ, _+_, _<_, _≤_};
+ghost use lib.ListN.{length, drop};
+ghost use Rattle.job.specs.Fields.{word2, word4, biasedOf};
+ghost use Rattle.job.specs.Refusal.{refusalNumber, refusalPlace};
+ghost use Rattle.job.specs.Records.{runOf, decoded, recordOf, NotRun, NotHead};
+ghost use Rattle.job.specs.Parse.{follows, coordinatesIn, runStep, endStep, stepBy, stepOf, refused, firstBy};
+ghost use Rattle.job.specs.Reading.{jobOf, readingOf};
+
+// Why a call is refused: document 01's numbers 1 to 11 in this order. A case that has a place holds it.
+pub enum Refusal {
+    ShortWork,
+    ShortPlan,
+    Cut(usize),
+    UnknownKind(usize),
+    Misplaced(usize),
+    WrongCount(usize),
+    WrongNumber(usize),
+    OutOfRange(usize),
+    TooManyRuns(usize),
+    NoRuns(usize),
+    NoStar,
+}
+
+// A run from its first point (x1, y1) to its second (x2, y2). A coordinate is the decimetres plus 1,000,000.
+pub struct Run {
+    pub number: u32,
+    pub x1: u32,
+    pub y1: u32,
+    pub x2: u32,
+    pub y2: u32,
+}
+
+// A job: run k stands at k in each array, for k below count; the entries from count on are 0.
+pub struct Job {
+    pub number: u32,
+    pub count: usize,
+    pub numbers: [u32; 32],
+    pub x1: [u32; 32],
+    pub y1: [u32; 32],
+    pub x2: [u32; 32],
+    pub y2: [u32; 32],
+}
+
+// What a call says of the job.
+pub enum Answer {
+    Accepted,
+    Refused(Refusal),
+}
+
+// What reading says. The job of a refusal has the number 0 and no run.
+pub struct Reading {
+    pub answer: Answer,
+    pub job: Job,
+}
+
+// What stands at a place of the job.
+pub enum Record {
+    Head(u32),
+    Run(Run),
+    End(u32),
+    Unknown,
+    Cut,
+}
+
+// What a record after the head says: one more run, the end of the job, or a refusal.
+pub enum Step {
+    Next(Run),
+    End,
+    Refuse(Refusal),
+}
+
+// Document 01's number of a refusal.
+pub fn refusal_number(refusal: Refusal) -> u32
+    ensures { λ r. ⌜ r ≡ refusalNumber refusal ⌝ }
+{
+    match refusal {
+        Refusal::ShortWork => 1,
+        Refusal::ShortPlan => 2,
+        Refusal::Cut(_) => 3,
+        Refusal::UnknownKind(_) => 4,
+        Refusal::Misplaced(_) => 5,
+        Refusal::WrongCount(_) => 6,
+        Refusal::WrongNumber(_) => 7,
+        Refusal::OutOfRange(_) => 8,
+        Refusal::TooManyRuns(_) => 9,
+        Refusal::NoRuns(_) => 10,
+        Refusal::NoStar => 11,
+    }
+}
+
+// The place of a refusal, 0 for one that has none.
+pub fn refusal_place(refusal: Refusal) -> usize
+    ensures { λ r. ⌜ r ≡ refusalPlace refusal ⌝ }
+{
+    match refusal {
+        Refusal::ShortWork => 0,
+        Refusal::ShortPlan => 0,
+        Refusal::Cut(at) => at,
+        Refusal::UnknownKind(at) => at,
+        Refusal::Misplaced(at) => at,
+        Refusal::WrongCount(at) => at,
+        Refusal::WrongNumber(at) => at,
+        Refusal::OutOfRange(at) => at,
+        Refusal::TooManyRuns(at) => at,
+        Refusal::NoRuns(at) => at,
+        Refusal::NoStar => 0,
+    }
+}
+
+fn wide(x: u8) -> u32
+    ensures { λ r. ⌜ (r ≡ x) × (r < 256) ⌝ }
+{
+    x as u32
+}
+
+// The two bytes from i on, little-endian.
+fn le16(b: &[u8], i: usize) -> u32
+    requires { ⌜ i + 1 < length (now b) ⌝ }
+    ensures { λ r. ⌜ r ≡ word2 (now (b .entry)) i ⌝ }
+{
+    wide(b[i]) + 256 * wide(b[i + 1])
+}
+
+// The four bytes from i on, little-endian.
+fn le32(b: &[u8], i: usize) -> u32
+    requires { ⌜ i + 3 < length (now b) ⌝ }
+    ensures { λ r. ⌜ r ≡ word4 (now (b .entry)) i ⌝ }
+{
+    wide(b[i]) + 256 * wide(b[i + 1]) + 65536 * wide(b[i + 2]) + 16777216 * wide(b[i + 3])
+}
+
+// A coordinate's word, read as two's complement, plus 1,000,000: above 2,000,000 where it lies outside its range.
+fn biased(word: u32) -> u32
+    ensures { λ r. ⌜ r ≡ biasedOf word ⌝ }
+{
+    ((word as u64 + 1000000) % 4294967296) as u32
+}
+
+// The run in a body.
+fn run_of(body: &[u8]) -> Run
+    requires { ⌜ 18 ≤ length (now body) ⌝ }
+    ensures { λ r. ⌜ r ≡ runOf (now (body .entry)) ⌝ }
+{
+    Run {
+        number: le16(body, 0),
+        x1: biased(le32(body, 2)),
+        y1: biased(le32(body, 6)),
+        x2: biased(le32(body, 10)),
+        y2: biased(le32(body, 14)),
+    }
+}
+
+// The record of this kind whose body the bytes begin with.
+fn decode(kind: u8, body: &[u8]) -> Record
+    ensures { λ r. ⌜ r ≡ decoded kind (now (body .entry)) ⌝ }
+{
+    if kind == 0x48 {
+        if body.len() < 4 {
+            return Record::Cut;
+        }
+        return Record::Head(le32(body, 0));
+    }
+    if kind == 0x52 {
+        if body.len() < 18 {
+            return Record::Cut;
+        }
+        return Record::Run(run_of(body));
+    }
+    if kind == 0x5A {
+        if body.len() < 2 {
+            return Record::Cut;
+        }
+        return Record::End(le16(body, 0));
+    }
+    Record::Unknown
+}
+
+// The record at a place. Its body is handed on as the part of the job after the kind byte.
+fn record_at(job: &[u8], at: usize) -> Record
+    ensures { λ r. ⌜ r ≡ recordOf (drop at (now (job .entry))) ⌝ }
+{
+    if at >= job.len() {
+        return Record::Cut;
+    }
+    let body = at + 1;
+    decode(job[at], &job[body..])
+}
+
+// A run number is in its range and above the one before.
+fn number_follows(last: u32, number: u32) -> bool
+    ensures { λ r. ⌜ r ≡ follows last number ⌝ }
+{
+    (1 <= number) & (number <= 9999) & (last < number)
+}
+
+// All four coordinates are in their range.
+fn coordinates_in(run: Run) -> bool
+    ensures { λ r. ⌜ r ≡ coordinatesIn run ⌝ }
+{
+    (run.x1 <= 2000000) & (run.y1 <= 2000000) & (run.x2 <= 2000000) & (run.y2 <= 2000000)
+}
+
+// A run record at a place, after n runs of which the last has the number last.
+fn run_step(run: Run, at: usize, n: usize, last: u32) -> Step
+    ensures { λ r. ⌜ r ≡ runStep at n last run ⌝ }
+{
+    if n >= 32 {
+        return Step::Refuse(Refusal::TooManyRuns(at));
+    }
+    if !number_follows(last, run.number) {
+        return Step::Refuse(Refusal::WrongNumber(at));
+    }
+    if !coordinates_in(run) {
+        return Step::Refuse(Refusal::OutOfRange(at));
+    }
+    Step::Next(run)
+}
+
+// An end record at a place, after n runs.
+fn end_step(count: u32, job: &[u8], at: usize, n: usize) -> Step
+    requires { ⌜ at ≤ length (now job) ⌝ }
+    ensures { λ r. ⌜ r ≡ endStep at n count (drop at (now (job .entry))) ⌝ }
+{
+    if count as usize != n {
+        return Step::Refuse(Refusal::WrongCount(at));
+    }
+    if n == 0 {
+        return Step::Refuse(Refusal::NoRuns(at));
+    }
+    if 3 < job.len() - at {
+        return Step::Refuse(Refusal::Misplaced(at + 3));
+    }
+    Step::End
+}
+
+// A record that is no run: it ends the job or is refused.
+fn not_run(rec: Record, job: &[u8], at: usize, n: usize) -> Step
+    requires { ⌜ (at ≤ length (now job)) × NotRun rec ⌝ }
+    ensures { λ r. ⌜ ((last : ℕ) → r ≡ stepBy at n last (drop at (now (job .entry))) rec) ⌝ }
+{
+    match rec {
+        Record::Unknown => Step::Refuse(Refusal::UnknownKind(at)),
+        Record::Cut => Step::Refuse(Refusal::Cut(at)),
+        Record::Head(_) => Step::Refuse(Refusal::Misplaced(at)),
+        Record::Run(_) => Step::Refuse(Refusal::Misplaced(at)),
+        Record::End(count) => end_step(count, job, at, n),
+    }
+}
+
+// The record at a place, after n runs of which the last has the number last.
+fn step_at(job: &[u8], at: usize, n: usize, last: u32) -> Step
+    requires { ⌜ at ≤ length (now job) ⌝ }
+    ensures { λ r. ⌜ r ≡ stepOf at n last (drop at (now (job .entry))) ⌝ }
+{
+    let rec = record_at(job, at);
+    let Record::Run(run) = rec else {
+        return not_run(rec, job, at, n);
+    };
+    run_step(run, at, n, last)
+}
+
+// The refusal of a first record that is no head.
+fn not_head(rec: Record) -> Refusal
+    requires { ⌜ NotHead rec ⌝ }
+    ensures { λ r. ⌜ ((rest : List ℕ) → refused r ≡ firstBy rec rest) ⌝ }
+{
+    match rec {
+        Record::Unknown => Refusal::UnknownKind(0),
+        Record::Cut => Refusal::Cut(0),
+        Record::Head(_) => Refusal::Misplaced(0),
+        Record::Run(_) => Refusal::Misplaced(0),
+        Record::End(_) => Refusal::Misplaced(0),
+    }
+}
+
+// The job with this number and no run.
+fn empty_job(number: u32) -> Job
+    ensures { λ r. ⌜ r ≡ jobOf number [] ⌝ }
+{
+    Job {
+        number,
+        count: 0,
+        numbers: [0; 32],
+        x1: [0; 32],
+        y1: [0; 32],
+        x2: [0; 32],
+        y2: [0; 32],
+    }
+}
+
+// The job with one more run.
+fn with_run(job: Job, run: Run) -> Job
+    requires { ⌜ job .count < 32 ⌝ }
+    ensures { λ r. ⌜ ((number : ℕ) (runs : List Run) → job ≡ jobOf number runs → r ≡ jobOf number (runs ++ (run ∷ []))) ⌝ }
+{
+    let mut next = job;
+    let k = job.count;
+    next.numbers[k] = run.number;
+    next.x1[k] = run.x1;
+    next.y1[k] = run.y1;
+    next.x2[k] = run.x2;
+    next.y2[k] = run.y2;
+    next.count = k + 1;
+    next
+}
+
+// The reading of a refusal.
+fn refusing(refusal: Refusal) -> Reading
+    ensures { λ r. ⌜ r ≡ record { answer = Answer.Refused refusal; job = jobOf 0 [] } ⌝ }
+{
+    let job = empty_job(0);
+    Reading {
+        answer: Answer::Refused(refusal),
+        job,
+    }
+}
+
+// Reads a job: the job, or the first refusal from 3 to 10 that applies. No byte after the one that decides is read.
+pub fn read(job: &[u8]) -> Reading
+    ensures { λ r. ⌜ r ≡ readingOf (now (job .entry)) ⌝ }
+{
+    let first = record_at(job, 0);
+    let Record::Head(number) = first else {
+        return refusing(not_head(first));
+    };
+    let mut found = empty_job(number);
+    let mut at: usize = 5;
+    let mut n: usize = 0;
+    let mut last: u32 = 0;
+    loop {
+        match step_at(job, at, n, last) {
+            Step::Next(run) => {
+                found = with_run(found, run);
+                at = at + 19;
+                n = n + 1;
+                last = run.number;
+            }
+            Step::End => {
+                return Reading {
+                    answer: Answer::Accepted,
+                    job: found,
+                };
+            }
+            Step::Refuse(refusal) => {
+                return refusing(refusal);
+            }
+        }
+    }
+}

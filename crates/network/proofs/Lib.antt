@@ -1,0 +1,27 @@
+-- The laws of the network, by topic; docs/PROOF.md has the argument in prose.
+pub mod Tests
+pub mod Lists
+pub mod Sums
+pub mod Numbers
+pub mod Rising
+pub mod Edges
+pub mod Monotone
+pub mod Along
+pub mod Joining
+pub mod Lanes
+pub mod Steps
+pub mod Drawn
+pub mod Counting
+pub mod Corners
+pub mod Bends
+pub mod Turned
+pub mod Alike
+pub mod Making
+pub mod Hanan
+pub mod Meeting
+pub mod Centres
+pub mod Leaves
+pub mod Slopes
+pub mod Star
+pub mod Sharable
+pub mod Worked
