@@ -112,9 +112,13 @@ slopes-true flipped r h =
 pub true-slopes : (s : Slope) (r : Run) → Sloped s r → slopes s r ≡ true
 unfolding slopes
 true-slopes s r (right-up a b) = rw (le-leb (r .first .x) (r .second .x) a, le-leb (r .first .y) (r .second .y) b)
-true-slopes s r (left-down a b) = rw (le-leb (r .second .x) (r .first .x) a, le-leb (r .second .y) (r .first .y) b) (or-true (leb (r .first .x) (r .second .x) && leb (r .first .y) (r .second .y)))
+true-slopes s r (left-down a b) =
+    rw (le-leb (r .second .x) (r .first .x) a, le-leb (r .second .y) (r .first .y) b)
+    (or-true (leb (r .first .x) (r .second .x) && leb (r .first .y) (r .second .y)))
 true-slopes s r (right-down a b) = rw (le-leb (r .first .x) (r .second .x) a, le-leb (r .second .y) (r .first .y) b)
-true-slopes s r (left-up a b) = rw (le-leb (r .second .x) (r .first .x) a, le-leb (r .first .y) (r .second .y) b) (or-true (leb (r .first .x) (r .second .x) && leb (r .second .y) (r .first .y)))
+true-slopes s r (left-up a b) =
+    rw (le-leb (r .second .x) (r .first .x) a, le-leb (r .first .y) (r .second .y) b)
+    (or-true (leb (r .first .x) (r .second .x) && leb (r .second .y) (r .first .y)))
 
 -- a straight run has both slopes
 pub straight-sloped : (s : Slope) (r : Run) → Straight r → Sloped s r

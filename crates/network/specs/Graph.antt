@@ -4,7 +4,7 @@ use mathlib.Core.List.{List, [], _∷_}
 use mathlib.Core.Bool.{Bool, not, _&&_, _||_}
 use Prim.Native.Nat.{ℕ}
 use lib.Dec.{eqb}
-use lib.ListN.{length, getD}
+use lib.ListN.{getD}
 use Rattle.network.specs.Lists.{any, every, count, select, each}
 use Rattle.network.specs.Plane.{Point, Run, _to_}
 use Rattle.network.specs.Grid.{Grid, edges, inside}

@@ -1,13 +1,12 @@
 -- Grids and their edges: "Vertices are all column and row crossings; an edge joins neighbouring vertices of one line, and its length is
 -- their distance" (01, Lines, boxes, meeting). A grid may be any two rising lists of lines; the job's own is the Hanan grid (000, 2.2).
-use mathlib.Core.Path.{_≡_}
 use mathlib.Core.List.{List, [], _∷_, _++_}
-use mathlib.Core.Bool.{Bool, true, false, _&&_}
-use Prim.Native.Nat.{ℕ, zero, suc, pred, _-_, _≤_, _<_, min, max}
-use lib.Dec.{leb, ltb}
+use mathlib.Core.Bool.{Bool, _&&_}
+use Prim.Native.Nat.{ℕ, suc, pred, _-_, _<_, min, max}
+use lib.Dec.{leb}
 use lib.ListN.{length, getD}
-use Rattle.network.specs.Lists.{each, All}
-use Rattle.network.specs.Plane.{Point, Run}
+use Rattle.network.specs.Lists.{each}
+use Rattle.network.specs.Plane.{Run}
 
 -- each number is below the next
 abbrev pub Rising : List ℕ → Type 0

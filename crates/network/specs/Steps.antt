@@ -2,7 +2,7 @@
 -- its second. The layers that build routes speak of these; the promise itself speaks of the routes that they draw.
 use mathlib.Core.Path.{_≡_}
 use mathlib.Core.List.{List, [], _∷_}
-use Prim.Native.Nat.{ℕ, zero, suc, _+_, _-_, _≤_, _<_}
+use Prim.Native.Nat.{ℕ, suc, _+_, _-_, _≤_, _<_}
 use lib.ListN.{length, getD}
 use Rattle.network.specs.Plane.{Point, Run}
 use Rattle.network.specs.Grid.{Grid, Edge, acrossAt, upwardAt}
