@@ -66,7 +66,7 @@ routes-length g (run ∷ runs) (route ∷ routes) m = ap₂ _+_ (route-length g 
 -- ---- one edge
 
 -- a length for each element that passes a test
-count-times : {A : Type 0} (t : A → Bool) (n : ℕ) (l : List A) → sum (λ a. cond (t a) n 0) l ≡ n * count t l
+pub count-times : {A : Type 0} (t : A → Bool) (n : ℕ) (l : List A) → sum (λ a. cond (t a) n 0) l ≡ n * count t l
 count-times t n [] = omega arith
 count-times t n (a ∷ l) = go (t a) (count-times t n l)
   where

@@ -13,15 +13,12 @@ pub mod Steps
 pub mod Drawn
 pub mod Counting
 pub mod Corners
-pub mod Bends
 pub mod Turned
-pub mod Alike
 pub mod Making
 pub mod Hanan
 pub mod Meeting
 pub mod Centres
 pub mod Leaves
 pub mod Slopes
-pub mod Star
 pub mod Sharable
 pub mod Worked

@@ -1,0 +1,119 @@
+-- The position of a line among rising lines is the number of lines below it; the edges between neighbouring lines have a length.
+use mathlib.Core.Path.{_≡_, refl, sym, ap, ap₂, _∙_}
+use mathlib.Core.Bool.{Bool, true, false, cond}
+use mathlib.Core.Logic.{_⊎_, inl, inr}
+use mathlib.Core.List.{List, [], _∷_}
+use Prim.Native.Nat.{ℕ, zero, suc, pred, _+_, _-_, _≤_, _<_, min}
+use native.Mathlib.Nat.{le-refl}
+use native.Mathlib.Numerals.{add-one}
+use native.Mathlib.Omega.{arith}
+use lib.Dec.{ltb}
+use lib.ListN.{length, getD}
+use borrow.Author.Tests.{lt-ltb, le-ltb}
+use Rattle.network.specs.Lists.{count}
+use Rattle.network.specs.Grid.{Grid, Rising, len, acrossAt, upwardAt}
+use Rattle.network.specs.Route.{Listed}
+use Rattle.network.specs.Graph.{below}
+use Rattle.network.proofs.Numbers.{order}
+use Rattle.network.proofs.Sums.{sum-append}
+use Rattle.network.proofs.Rising.{rising-lt, rising-le}
+use Rattle.grid.specs.Tables.{table, padded}
+use Rattle.grid.specs.Lines.{RisingTo, indexOf, lengthAt}
+use Rattle.grid.proofs.Tables.{getD-padded, table-same}
+
+-- ---- counting
+
+-- one number more
+pub count-below : (t : ℕ → Bool) (n : ℕ) → count t (below (suc n)) ≡ count t (below n) + cond (t n) 1 0
+count-below t n = sum-append (λ i. cond (t i) 1 0) (below n) (n ∷ []) ∙ omega arith
+
+-- tests that are equal below n count the same
+pub count-same : (s t : ℕ → Bool) (n : ℕ) → ((i : ℕ) → i < n → s i ≡ t i) → count s (below n) ≡ count t (below n)
+count-same s t zero h = refl
+count-same s t (suc n) h =
+    count-below s n ∙ ap₂ (λ (k : ℕ) (b : Bool). k + cond b 1 0) (count-same s t n (λ i k. h i (omega arith))) (h n (le-refl (suc n))) ∙ sym (count-below t n)
+
+-- no more than there are
+pub count-le : (t : ℕ → Bool) (n : ℕ) → count t (below n) ≤ n
+count-le t zero = le-refl 0
+count-le t (suc n) = rw count-below (go (t n) (count-le t n))
+  where
+    go : (b : Bool) → count t (below n) ≤ n → count t (below n) + cond b 1 0 ≤ suc n
+    go true h = omega arith
+    go false h = omega arith
+
+-- ---- the loop's steps
+
+pub index-none : (l : List ℕ) (v : ℕ) → indexOf l 0 v ≡ 0
+unfolding indexOf
+index-none l v = refl
+
+pub index-more : (l : List ℕ) (n v : ℕ) → getD l n 0 < v → indexOf l (n + 1) v ≡ indexOf l n v + 1
+unfolding indexOf
+index-more l n v h =
+    ap (λ k. indexOf l k v) (add-one n) ∙ count-below (λ i. ltb (getD l i 0) v) n ∙ ap (λ b. indexOf l n v + cond b 1 0) (lt-ltb (getD l n 0) v h)
+
+pub index-still : (l : List ℕ) (n v : ℕ) → v ≤ getD l n 0 → indexOf l (n + 1) v ≡ indexOf l n v
+unfolding indexOf
+index-still l n v h =
+    ap (λ k. indexOf l k v) (add-one n) ∙ count-below (λ i. ltb (getD l i 0) v) n ∙ ap (λ b. indexOf l n v + cond b 1 0) (le-ltb (getD l n 0) v h) ∙ omega arith
+
+pub index-le : (l : List ℕ) (n v : ℕ) → indexOf l n v ≤ n
+unfolding indexOf
+index-le l n v = count-le (λ i. ltb (getD l i 0) v) n
+
+-- ---- what it means
+
+module _ (l : List ℕ) (r : Rising l) where
+  -- among the first m lines, those below line i are the first i
+  index-upto : (i m : ℕ) → i < length l → m ≤ length l → indexOf l m (getD l i 0) ≡ min m i
+  index-upto i zero h k = index-none l (getD l i 0) ∙ omega arith
+  index-upto i (suc m) h k = ap (λ n. indexOf l n (getD l i 0)) (sym (add-one m)) ∙ go (order i m) (index-upto i m h (omega arith))
+    where
+      go : (i ≤ m) ⊎ (m < i) → indexOf l m (getD l i 0) ≡ min m i → indexOf l (m + 1) (getD l i 0) ≡ min (suc m) i
+      go (inl p) e = index-still l m (getD l i 0) (rising-le l r i m p (omega arith)) ∙ omega arith
+      go (inr p) e = index-more l m (getD l i 0) (rising-lt l r m i p h) ∙ omega arith
+
+-- the lines of an array that holds a list are the list's
+index-held : (l : List ℕ) (v : ℕ) → indexOf (padded 64 l) (length l) v ≡ indexOf l (length l) v
+unfolding indexOf
+index-held l v = count-same _ _ (length l) (λ i h. ap (λ x. ltb x v) (getD-padded 64 l i h))
+
+-- the position of line i is i
+pub position-is : (l : List ℕ) → Rising l → (i : ℕ) → i < length l → indexOf (padded 64 l) (length l) (getD l i 0) ≡ i
+position-is l r i h = index-held l (getD l i 0) ∙ index-upto l r i (length l) h (le-refl (length l)) ∙ omega arith
+
+-- the line at the position of a listed value is the value again
+pub position-line : (l : List ℕ) → Rising l → (v : ℕ) → Listed l v
+    → (indexOf (padded 64 l) (length l) v < length l) × (getD l (indexOf (padded 64 l) (length l) v) 0 ≡ v)
+position-line l r v (i, h, e) =
+    let p : indexOf (padded 64 l) (length l) v ≡ i = ap (λ x. indexOf (padded 64 l) (length l) x) (sym e) ∙ position-is l r i h in
+    (omega arith, ap (λ k. getD l k 0) p ∙ e)
+
+-- ---- lengths
+
+-- the lines of an array that holds a rising list rise
+pub padded-rises : (l : List ℕ) → Rising l → RisingTo (padded 64 l) (length l)
+padded-rises l r i h = omega (arith, r i h, getD-padded 64 l i (omega arith), getD-padded 64 l (suc i) h)
+
+-- the lengths that an array of lines gives are the list's
+pub lengths-held : (l : List ℕ) → table (lengthAt (padded 64 l)) (pred (length l)) ≡ table (lengthAt l) (pred (length l))
+lengths-held l =
+    table-same (lengthAt (padded 64 l)) (lengthAt l) (pred (length l))
+    (λ i h. ap₂ (λ a b. a - b) (getD-padded 64 l (suc i) (omega arith)) (getD-padded 64 l i (omega arith)))
+
+-- an edge has a length, which is at most the coordinate where it ends
+pub length-positive : (l : List ℕ) → Rising l → (i : ℕ) → suc i < length l → 0 < lengthAt l i
+length-positive l r i h = omega (arith, r i h)
+
+pub length-below : (l : List ℕ) (i m : ℕ) → getD l (suc i) 0 ≤ m → lengthAt l i ≤ m
+length-below l i m h = omega arith
+
+-- the lengths of the grid's edges by the columns, and by the rows
+pub across-length : (g : Grid) (i j : ℕ) → len (acrossAt g i j) ≡ lengthAt (g .columns) i
+unfolding len
+across-length g i j = refl
+
+pub upward-length : (g : Grid) (i j : ℕ) → len (upwardAt g i j) ≡ lengthAt (g .rows) j
+unfolding len
+upward-length g i j = refl

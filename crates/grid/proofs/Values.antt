@@ -1,0 +1,58 @@
+-- The values of an axis, run after run, and the runs that they come from.
+use mathlib.Core.Path.{_≡_, refl, sym, ap, _∙_, subst}
+use mathlib.Core.List.{List, [], _∷_, _++_, append-assoc}
+use Prim.Native.Nat.{ℕ, zero, suc, _+_, _≤_, _<_}
+use native.Mathlib.Numerals.{add-one}
+use native.Mathlib.Omega.{arith}
+use lib.ListN.{length, getD, length-append}
+use Rattle.network.specs.Grid.{Rising}
+use Rattle.network.specs.Hanan.{insert, distinct, distinct-rises}
+use Rattle.grid.specs.declared.Axis.{Axis}
+use Rattle.grid.specs.Lines.{values, axisOf, linesOf, Room}
+use Rattle.grid.proofs.Insert.{distinct-last, length-distinct}
+use Rattle.grid.proofs.Carry.{lines-held}
+
+module _ (first second : List ℕ) where
+  -- no runs, no lines
+  pub distinct-none : distinct (values first second 0) ≡ []
+  unfolding values distinct
+  distinct-none = refl
+
+  -- one run more, two values more
+  pub distinct-more : (n : ℕ) → distinct (values first second (n + 1)) ≡ insert (getD second n 0) (insert (getD first n 0) (distinct (values first second n)))
+  unfolding values
+  distinct-more n =
+      ap (λ (k : ℕ). distinct (values first second k)) (add-one n)
+      ∙ ap distinct (sym (append-assoc (values first second n) (getD first n 0 ∷ []) (getD second n 0 ∷ [])))
+      ∙ distinct-last (values first second n ++ (getD first n 0 ∷ [])) (getD second n 0)
+      ∙ ap (insert (getD second n 0)) (distinct-last (values first second n) (getD first n 0))
+
+  length-values : (n : ℕ) → length (values first second n) ≡ n + n
+  unfolding values
+  length-values zero = refl
+  length-values (suc n) = length-append (values first second n) (getD first n 0 ∷ getD second n 0 ∷ []) ∙ omega (arith, length-values n)
+
+  -- at most two lines a run
+  pub few-lines : (n : ℕ) → length (distinct (values first second n)) ≤ n + n
+  few-lines n = omega (arith, length-distinct (values first second n), length-values n)
+
+-- ---- an axis that is built line by line
+
+-- the axis with the lines of a rising list has room for one more
+pub room-for : (a : Axis) (l : List ℕ) → a ≡ axisOf l → Rising l → length l < 64 → Room a
+room-for a l e r h =
+    let k : linesOf a ≡ l = ap linesOf e ∙ lines-held l in
+    record {
+      held = e ∙ ap axisOf (sym k);
+      rises = subst Rising (sym k) r;
+      room = omega (arith, ap (λ (b : Axis). b .count) e);
+    }
+
+-- what one line more makes of it
+pub line-more : (a r : Axis) (l : List ℕ) (v : ℕ) → a ≡ axisOf l → r ≡ axisOf (insert v (linesOf a)) → r ≡ axisOf (insert v l)
+line-more a r l v e h = h ∙ ap (λ (k : List ℕ). axisOf (insert v k)) (ap linesOf e ∙ lines-held l)
+
+-- one value more before the distinct values of a list
+pub insert-rising : (v : ℕ) (l : List ℕ) → Rising (insert v (distinct l))
+unfolding distinct
+insert-rising v l = distinct-rises (v ∷ l)

@@ -1,0 +1,122 @@
+-- Tests over lists and over the numbers below n: chosen elements, every element, the first that passes.
+use mathlib.Core.Path.{_≡_, refl, sym, ap, ap₂, _∙_}
+use mathlib.Core.Bool.{Bool, true, false, not, _&&_, _||_, and-assoc, and-true}
+use mathlib.Core.Logic.{_⊎_, inl, inr}
+use mathlib.Core.List.{List, [], _∷_, _++_, append-nil, List·Memᴰ as Member, List·Memᴰ·head as here, List·Memᴰ·tail as there}
+use Prim.Native.Nat.{ℕ, zero, suc, _≤_, _<_}
+use native.Mathlib.Nat.{eq-or-lt-of-le, le-of-suc-le-suc, not-suc-le-zero}
+use native.Mathlib.Omega.{arith}
+use Rattle.network.specs.Lists.{every, select}
+use Rattle.network.specs.Graph.{below}
+use Rattle.network.proofs.Leaves.{below-member}
+
+-- ---- chosen elements
+
+-- an element that is kept or left out
+abbrev pub kept : {A : Type 0} → Bool → A → List A → List A
+kept true a l = a ∷ l
+kept false a l = l
+
+pub select-cons : {A : Type 0} (t : A → Bool) (a : A) (l : List A) → select t (a ∷ l) ≡ kept (t a) a (select t l)
+select-cons {A} t a l = go (t a)
+  where
+    go : (b : Bool) → elim b as (λ u. List A) [ true ↦ a ∷ select t l | false ↦ select t l ] ≡ kept b a (select t l)
+    go true = refl
+    go false = refl
+
+pub select-append : {A : Type 0} (t : A → Bool) (l k : List A) → select t (l ++ k) ≡ select t l ++ select t k
+select-append t [] k = refl
+select-append {A} t (a ∷ l) k = select-cons t a (l ++ k) ∙ go (t a) (select-append t l k) ∙ sym (ap (λ (m : List A). m ++ select t k) (select-cons t a l))
+  where
+    go : (b : Bool) → select t (l ++ k) ≡ select t l ++ select t k → kept b a (select t (l ++ k)) ≡ kept b a (select t l) ++ select t k
+    go true e = ap (λ (m : List A). a ∷ m) e
+    go false e = e
+
+-- a choice of a choice
+pub select-select : {A : Type 0} (f t : A → Bool) (l : List A) → select f (select t l) ≡ select (λ a. t a && f a) l
+select-select f t [] = refl
+select-select {A} f t (a ∷ l) = ap (select f) (select-cons t a l) ∙ go (t a) (select-select f t l) ∙ sym (select-cons (λ b. t b && f b) a l)
+  where
+    go : (b : Bool) → select f (select t l) ≡ select (λ c. t c && f c) l → select f (kept b a (select t l)) ≡ kept (b && f a) a (select (λ c. t c && f c) l)
+    go true e = select-cons f a (select t l) ∙ ap (kept (f a) a) e
+    go false e = e
+
+-- tests that are equal at every element choose the same
+pub select-cong : {A : Type 0} (f g : A → Bool) (l : List A) → ((a : A) → Member a l → f a ≡ g a) → select f l ≡ select g l
+select-cong f g [] h = refl
+select-cong {A} f g (a ∷ l) h =
+    select-cons f a l ∙ ap₂ (λ (b : Bool) (k : List A). kept b a k) (h a (here refl)) (select-cong f g l (λ b m. h b (there m))) ∙ sym (select-cons g a l)
+
+-- where none passes none is chosen, and where all pass all are
+pub select-none : {A : Type 0} (f : A → Bool) (l : List A) → ((a : A) → Member a l → f a ≡ false) → select f l ≡ []
+select-none f [] h = refl
+select-none {A} f (a ∷ l) h = select-cons f a l ∙ ap₂ (λ (b : Bool) (k : List A). kept b a k) (h a (here refl)) (select-none f l (λ b m. h b (there m)))
+
+pub select-all : {A : Type 0} (f : A → Bool) (l : List A) → ((a : A) → Member a l → f a ≡ true) → select f l ≡ l
+select-all f [] h = refl
+select-all {A} f (a ∷ l) h = select-cons f a l ∙ ap₂ (λ (b : Bool) (k : List A). kept b a k) (h a (here refl)) (select-all f l (λ b m. h b (there m)))
+
+-- every chosen element passes
+pub every-select : {A : Type 0} (f t : A → Bool) (l : List A) → every f (select t l) ≡ every (λ a. not (t a) || f a) l
+every-select f t [] = refl
+every-select {A} f t (a ∷ l) = ap (every f) (select-cons t a l) ∙ go (t a) (every-select f t l)
+  where
+    go : (b : Bool) → every f (select t l) ≡ every (λ c. not (t c) || f c) l → every f (kept b a (select t l)) ≡ (not b || f a) && every (λ c. not (t c) || f c) l
+    go true e = ap (λ (r : Bool). f a && r) e
+    go false e = e
+
+-- ---- every element
+
+pub every-append : {A : Type 0} (f : A → Bool) (l k : List A) → every f (l ++ k) ≡ every f l && every f k
+every-append f [] k = refl
+every-append f (a ∷ l) k = ap (λ (r : Bool). f a && r) (every-append f l k) ∙ sym (and-assoc (f a) (every f l) (every f k))
+
+-- a part of the test that is the same at every element
+pub every-or : {A : Type 0} (b : Bool) (f : A → Bool) (l : List A) → every (λ a. b || f a) l ≡ b || every f l
+every-or true f [] = refl
+every-or true f (a ∷ l) = every-or true f l
+every-or false f l = refl
+
+-- tests that are equal at every element give equal answers
+pub every-cong : {A : Type 0} (f g : A → Bool) (l : List A) → ((a : A) → Member a l → f a ≡ g a) → every f l ≡ every g l
+every-cong f g [] h = refl
+every-cong f g (a ∷ l) h = ap₂ _&&_ (h a (here refl)) (every-cong f g l (λ b m. h b (there m)))
+
+-- ---- the numbers below n
+
+pub every-below : (f : ℕ → Bool) (n : ℕ) → every f (below (suc n)) ≡ every f (below n) && f n
+every-below f n = every-append f (below n) (n ∷ []) ∙ ap (λ (r : Bool). every f (below n) && r) (and-true (f n))
+
+pub every-same : (f g : ℕ → Bool) (n : ℕ) → ((j : ℕ) → j < n → f j ≡ g j) → every f (below n) ≡ every g (below n)
+every-same f g n h = every-cong f g (below n) (λ j m. h j (below-member n j m))
+
+pub select-same : (f g : ℕ → Bool) (n : ℕ) → ((j : ℕ) → j < n → f j ≡ g j) → select f (below n) ≡ select g (below n)
+select-same f g n h = select-cong f g (below n) (λ j m. h j (below-member n j m))
+
+-- those below n pass, and no others
+pub select-below : (f : ℕ → Bool) (n m : ℕ) → n ≤ m → ((j : ℕ) → j < n → f j ≡ true) → ((j : ℕ) → n ≤ j → f j ≡ false) → select f (below m) ≡ below n
+select-below f n zero h t e =
+    let z : 0 ≡ n = omega arith in
+    ap below z
+select-below f n (suc m) h t e = go (eq-or-lt-of-le h) (λ k. select-below f n m k t e)
+  where
+    go : (n ≡ suc m) ⊎ (n < suc m) → (n ≤ m → select f (below m) ≡ below n) → select f (below (suc m)) ≡ below n
+    go (inl q) ih = select-all f (below (suc m)) (λ j l. t j (omega (arith, below-member (suc m) j l))) ∙ ap below (sym q)
+    go (inr q) ih =
+        select-append f (below m) (m ∷ [])
+        ∙ ap₂ _++_ (ih (le-of-suc-le-suc q)) (select-cons f m [] ∙ ap (λ (b : Bool). kept b m []) (e m (le-of-suc-le-suc q))) ∙ append-nil (below n)
+
+-- the first that passes
+pub select-first : (f : ℕ → Bool) (n m : ℕ) → m < n → f m ≡ true → ((j : ℕ) → j < m → f j ≡ false) → (rest : List ℕ) × (select f (below n) ≡ m ∷ rest)
+select-first f zero m h t e = absurd (not-suc-le-zero h)
+select-first f (suc n) m h t e = go (eq-or-lt-of-le (le-of-suc-le-suc h)) (λ k. select-first f n m k t e)
+  where
+    go : (m ≡ n) ⊎ (m < n) → (m < n → (rest : List ℕ) × (select f (below n) ≡ m ∷ rest)) → (rest : List ℕ) × (select f (below (suc n)) ≡ m ∷ rest)
+    go (inl k) ih = (
+      [],
+      select-append f (below n) (n ∷ [])
+          ∙ ap₂ _++_ (select-none f (below n) (λ j l. e j (omega (arith, below-member n j l)))) (select-cons f n [] ∙ ap (λ (b : Bool). kept b n []) (ap f (sym k) ∙ t) ∙ ap (λ (i : ℕ). i ∷ []) (sym k)),
+    )
+    go (inr k) ih =
+        let (rest, p) = ih k in
+        (rest ++ select f (n ∷ []), select-append f (below n) (n ∷ []) ∙ ap (λ (l : List ℕ). l ++ select f (n ∷ [])) p)

@@ -1,0 +1,158 @@
+-- What the answers mean: the star of a group is its lowest centre, there is one exactly if the group has a centre, and for a whole job the sets
+-- that the code computes give the meets figures and the star of the runs that meet.
+use mathlib.Core.Path.{_≡_, refl, sym, ap, ap₂, _∙_}
+use mathlib.Core.Bool.{Bool, true, false, not, _&&_, _||_}
+use mathlib.Core.Logic.{_⊎_, inl, inr}
+use mathlib.Core.List.{List, [], _∷_, _++_, append-nil, List·Memᴰ as Member, List·Memᴰ·head as here, List·Memᴰ·eq-of-singleton}
+use Prim.Native.Nat.{ℕ, zero, suc, _≤_, _<_}
+use native.Mathlib.Omega.{arith}
+use lib.Dec.{eqb}
+use lib.ListN.{length, getD, length-append, List·getD-append}
+use lib.Seq.{getD-at}
+use Rattle.network.specs.Lists.{select, count}
+use Rattle.network.specs.Plane.{Run}
+use Rattle.network.specs.Grid.{Rising}
+use Rattle.network.specs.Graph.{below, degree, isCentre, centres}
+use Rattle.network.proofs.Numbers.{order}
+use Rattle.network.proofs.Lists.{selected-member, index-member}
+use Rattle.network.proofs.Centres.{IsCentre, centres-first, first-centres, centres-none, none-centres}
+use Rattle.network.proofs.Leaves.{below-member, below-rises}
+use Rattle.grid.specs.Tables.{table}
+use Rattle.grid.proofs.Tables.{length-table, getD-table, getD-padded}
+use Rattle.intersection.specs.declared.Star.{Star}
+use Rattle.intersection.specs.declared.Star.the-variants.{Centre, NoStar}
+use Rattle.intersection.specs.Sets.{has, members, pack, everyone}
+use Rattle.intersection.specs.Boxes.{meetsIn, neighbourSets}
+use Rattle.intersection.specs.Star.{joinedIn, starOf}
+use Rattle.intersection.proofs.Digits.{has-pack}
+use Rattle.intersection.proofs.Lists.{kept, select-append, select-cons, select-cong, every-cong}
+use Rattle.intersection.proofs.Members.{count-pack, members-first}
+
+-- ---- the members of a set rise
+
+rising-last : (l : List ℕ) (v : ℕ) → Rising l → ((i : ℕ) → i < length l → getD l i 0 < v) → Rising (l ++ (v ∷ []))
+rising-last l v r h i k = go (order (length l) (suc i))
+  where
+    go : (length l ≤ suc i) ⊎ (suc i < length l) → getD (l ++ (v ∷ [])) i 0 < getD (l ++ (v ∷ [])) (suc i) 0
+    go (inl m) =
+        let e : length l ≡ suc i = omega (arith, length-append l (v ∷ [])) in
+        rw (List·getD-append l (v ∷ []) 0 i (omega arith), getD-at l v [] 0 (suc i) e) (h i (omega arith))
+    go (inr m) = rw (List·getD-append l (v ∷ []) 0 i (omega arith), List·getD-append l (v ∷ []) 0 (suc i) m) (r i m)
+
+select-rises : (t : ℕ → Bool) (n : ℕ) → Rising (select t (below n))
+select-rises t zero = λ i k. absurd (omega arith)
+select-rises t (suc n) = rw (select-append t (below n) (n ∷ []), select-cons t n []) (go (t n) (select-rises t n))
+  where
+    under : (i : ℕ) → i < length (select t (below n)) → getD (select t (below n)) i 0 < n
+    under i h = below-member n (getD (select t (below n)) i 0) (selected-member t (below n) (index-member 0 (select t (below n)) i h) .0)
+
+    go : (b : Bool) → Rising (select t (below n)) → Rising (select t (below n) ++ kept b n [])
+    go true r = rising-last (select t (below n)) n r under
+    go false r = rw append-nil r
+
+pub members-rise : (s : ℕ) → Rising (members s)
+unfolding members
+members-rise s = select-rises (has s) 32
+
+-- ---- the answer
+
+module _ (joined : ℕ → ℕ → Bool) (group : List ℕ) where
+  -- no star exactly if the group has no centre
+  pub no-star : starOf (centres joined group) ≡ NoStar → (c : ℕ) → IsCentre joined group c → ⊥
+  no-star e = centres-none joined group (go (centres joined group) e)
+    where
+      go : (l : List ℕ) → starOf l ≡ NoStar → l ≡ []
+      go [] q = refl
+      go (c ∷ l) q = let z : _≡_ {A = ℕ} 0 1 = cc in absurd (omega arith)
+
+  pub star-no : ((c : ℕ) → IsCentre joined group c → ⊥) → starOf (centres joined group) ≡ NoStar
+  star-no n = ap starOf (none-centres joined group n)
+
+  -- where there is a centre, the group is accepted
+  pub star-found : (c : ℕ) → IsCentre joined group c → (d : ℕ) × (starOf (centres joined group) ≡ Centre d)
+  star-found c k = go (centres joined group) refl
+    where
+      go : (l : List ℕ) → centres joined group ≡ l → (d : ℕ) × (starOf l ≡ Centre d)
+      go [] e = absurd (centres-none joined group e c k)
+      go (d ∷ l) e = (d, refl)
+
+  module _ (rises : Rising group) where
+    -- the answer is a centre, and the lowest
+    pub star-centre : (c : ℕ) → starOf (centres joined group) ≡ Centre c → IsCentre joined group c × ((d : ℕ) → d < c → IsCentre joined group d → ⊥)
+    star-centre c e = go (centres joined group) refl e
+      where
+        go : (l : List ℕ) → centres joined group ≡ l → starOf l ≡ Centre c → IsCentre joined group c × ((d : ℕ) → d < c → IsCentre joined group d → ⊥)
+        go [] p q = let z : _≡_ {A = ℕ} 0 1 = cc in absurd (omega arith)
+        go (d ∷ l) p q =
+            let z : d ≡ c = cc in
+            centres-first joined group rises c l (p ∙ ap (λ (a : ℕ). a ∷ l) z)
+
+    -- and the lowest centre is the answer
+    pub centre-star : (c : ℕ) → IsCentre joined group c → ((d : ℕ) → d < c → IsCentre joined group d → ⊥) → starOf (centres joined group) ≡ Centre c
+    centre-star c k low = ap starOf (first-centres joined group rises c k low .1)
+
+-- a run alone is its own centre
+pub alone : (joined : ℕ → ℕ → Bool) (c : ℕ) → starOf (centres joined (c ∷ [])) ≡ Centre c
+alone joined c =
+    centre-star joined (c ∷ []) (λ i k. absurd (omega arith)) c
+    (record {
+      member = here refl;
+      joins = λ i m n. absurd (n (List·Memᴰ·eq-of-singleton m));
+      leaves = λ i j m k n o. absurd (n (List·Memᴰ·eq-of-singleton m));
+    })
+    (λ d l k. omega (arith, List·Memᴰ·eq-of-singleton (k .member)))
+
+-- ---- graphs that are equal on a group
+
+module _ (p q : ℕ → ℕ → Bool) (group : List ℕ) (h : (i j : ℕ) → Member i group → Member j group → p i j ≡ q i j) where
+  centre-same : (c : ℕ) → Member c group → isCentre p group c ≡ isCentre q group c
+  unfolding isCentre
+  centre-same c m =
+      ap₂ _&&_ (every-cong _ _ group (λ i k. ap (λ (b : Bool). eqb i c || b) (h c i m k)))
+      (every-cong _ _ group (λ i k. every-cong _ _ group (λ j l. ap (λ (b : Bool). eqb i c || eqb j c || not b) (h i j k l))))
+
+  pub centres-same : centres p group ≡ centres q group
+  unfolding centres
+  centres-same = select-cong (isCentre p group) (isCentre q group) group centre-same
+
+-- ---- a whole job
+
+module _ (joined : ℕ → ℕ → Bool) (n : ℕ) (few : n ≤ 32) where
+  -- the set of run i
+  pub set-at : (i : ℕ) → i < n → getD (neighbourSets joined n) i 0 ≡ pack (joined i) n
+  set-at i h =
+      getD-padded 32 (table (λ i. pack (joined i) n) n) i (omega (arith, length-table (λ i. pack (joined i) n) n))
+      ∙ getD-table (λ i. pack (joined i) n) n i 0 h
+
+  -- it has the runs that are joined to i
+  pub set-joined : (i j : ℕ) → i < n → j < n → joinedIn (neighbourSets joined n) i j ≡ joined i j
+  set-joined i j h k = ap (λ (s : ℕ). has s j) (set-at i h) ∙ has-pack (joined i) n j k
+
+  -- the meets figure
+  pub job-degree : (i : ℕ) → i < n → degree (joinedIn (neighbourSets joined n)) (below 32) i ≡ degree joined (below n) i
+  unfolding degree
+  job-degree i h = ap (λ (s : ℕ). count (has s) (below 32)) (set-at i h) ∙ count-pack (joined i) n few
+
+  -- the star
+  pub job-star : starOf (centres (joinedIn (neighbourSets joined n)) (members (pack everyone n))) ≡ starOf (centres joined (below n))
+  job-star =
+      ap starOf
+      (ap (centres (joinedIn (neighbourSets joined n))) (members-first n few)
+      ∙ centres-same (joinedIn (neighbourSets joined n)) joined (below n) (λ i j k l. set-joined i j (below-member n i k) (below-member n j l)))
+
+-- the answer for a job's runs: a run is named exactly if it is the lowest centre of the runs that meet, and none exactly if there is no centre
+module _ (runs : List Run) (n : ℕ) (few : n ≤ 32) where
+  abbrev pub answer : Star
+  answer = starOf (centres (joinedIn (neighbourSets (meetsIn runs) n)) (members (pack everyone n)))
+
+  pub job-centre : (c : ℕ) → answer ≡ Centre c → IsCentre (meetsIn runs) (below n) c × ((d : ℕ) → d < c → IsCentre (meetsIn runs) (below n) d → ⊥)
+  job-centre c e = star-centre (meetsIn runs) (below n) (below-rises n) c (sym (job-star (meetsIn runs) n few) ∙ e)
+
+  pub centre-job : (c : ℕ) → IsCentre (meetsIn runs) (below n) c → ((d : ℕ) → d < c → IsCentre (meetsIn runs) (below n) d → ⊥) → answer ≡ Centre c
+  centre-job c k low = job-star (meetsIn runs) n few ∙ centre-star (meetsIn runs) (below n) (below-rises n) c k low
+
+  pub job-refused : answer ≡ NoStar → (c : ℕ) → IsCentre (meetsIn runs) (below n) c → ⊥
+  job-refused e = no-star (meetsIn runs) (below n) (sym (job-star (meetsIn runs) n few) ∙ e)
+
+  pub refused-job : ((c : ℕ) → IsCentre (meetsIn runs) (below n) c → ⊥) → answer ≡ NoStar
+  refused-job h = job-star (meetsIn runs) n few ∙ star-no (meetsIn runs) (below n) h

@@ -1,0 +1,21 @@
+-- The degree is the size of the set.
+use Rattle.network.specs.Graph.{degree}
+use borrow.Author.Needs.{needs}
+use Rattle.intersection.proofs.meets_of.Statement.{statement}
+use Rattle.intersection.proofs.meets_of.Tie as tie
+
+mul-size : tie.Need-mul-size
+mul-size c = search needs
+
+element-copy-out-size : tie.Need-element-copy-out-size
+element-copy-out-size c = search needs
+
+size-requires : tie.Need-size-requires
+size-requires c κs = search needs
+
+returns : tie.Need-returns
+unfolding degree
+returns c = c .size .ensures
+
+pub meets-of-spec : {M : Type 1} → statement M
+meets-of-spec = tie.close (tie.spec mul-size element-copy-out-size size-requires returns)

@@ -1,0 +1,4 @@
+-- What the contracts of `intersection` cite.
+pub mod Sets
+pub mod Boxes
+pub mod Star

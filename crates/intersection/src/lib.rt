@@ -1,0 +1,207 @@
+// Which runs of a job meet, and the star that they form.
+pub mod sets;
+
+ghost use mathlib.Core.Path.{_≡_};
+ghost use Prim.Native.Nat.{ℕ, _+_, _≤_, _<_};
+ghost use Rattle.grid.specs.Runs.{runsOf};
+ghost use Rattle.network.specs.Lists.{every};
+ghost use Rattle.network.specs.Graph.{below, degree, isCentre, centres};
+ghost use Rattle.intersection.specs.Sets.{members, pack};
+ghost use Rattle.intersection.specs.Boxes.{sidesOf, boxAt, boxesOverlap, boxesMeet, meetsIn, neighbourSets, partSets, Comparing};
+ghost use Rattle.intersection.specs.Star.{joinedIn, leafOf, centreIn, starOf};
+
+// The sides of all runs' boxes on one axis: the lower of each run's two values, and the higher.
+pub struct Sides {
+    pub lower: [u32; 32],
+    pub higher: [u32; 32],
+}
+
+// The smallest upright rectangle that holds a run's two points.
+pub struct Box {
+    pub left: u32,
+    pub right: u32,
+    pub low: u32,
+    pub high: u32,
+}
+
+fn box_sides(first: &[u32; 32], second: &[u32; 32]) -> Sides
+    ensures { λ r. ⌜ r ≡ sidesOf (now (first .entry)) (now (second .entry)) ⌝ }
+{
+    let mut lower = [0u32; 32];
+    let mut higher = [0u32; 32];
+    let mut i: usize = 0;
+    while i < 32 {
+        let a = first[i];
+        let b = second[i];
+        lower[i] = grid::least(a, b);
+        higher[i] = grid::most(a, b);
+        i += 1;
+    }
+    Sides { lower, higher }
+}
+
+fn box_at(left: &[u32; 32], right: &[u32; 32], low: &[u32; 32], high: &[u32; 32], i: usize) -> Box
+    requires { ⌜ i < 32 ⌝ }
+    ensures { λ r. ⌜ r ≡ boxAt (now (left .entry)) (now (right .entry)) (now (low .entry)) (now (high .entry)) i ⌝ }
+{
+    Box {
+        left: left[i],
+        right: right[i],
+        low: low[i],
+        high: high[i],
+    }
+}
+
+// Two boxes have more than a point in common.
+fn overlap(a: Box, b: Box) -> bool
+    ensures { λ r. ⌜ r ≡ boxesOverlap a b ⌝ }
+{
+    let left = grid::most(a.left, b.left);
+    let right = grid::least(a.right, b.right);
+    let low = grid::most(a.low, b.low);
+    let high = grid::least(a.high, b.high);
+    (left <= right) & (low <= high) & ((left < right) | (low < high))
+}
+
+// Runs i and j are compared: where they meet, each is put into the set of the other.
+fn compare(
+    left: &[u32; 32],
+    right: &[u32; 32],
+    low: &[u32; 32],
+    high: &[u32; 32],
+    i: usize,
+    j: usize,
+    neighbours: &mut [u32; 32],
+)
+    requires { ⌜ Comparing (boxesMeet (now left) (now right) (now low) (now high)) i j (now neighbours) ⌝ }
+    ensures { λ r. ⌜ now (neighbours .exit) ≡ partSets (boxesMeet (now (left .entry)) (now (right .entry)) (now (low .entry)) (now (high .entry))) i (j + 1) ⌝ }
+{
+    let a = box_at(left, right, low, high, i);
+    let b = box_at(left, right, low, high, j);
+    if overlap(a, b) {
+        neighbours[i] = sets::add(neighbours[i], j);
+        neighbours[j] = sets::add(neighbours[j], i);
+    }
+}
+
+// Run i is compared with each run before it.
+fn compare_all(
+    left: &[u32; 32],
+    right: &[u32; 32],
+    low: &[u32; 32],
+    high: &[u32; 32],
+    i: usize,
+    neighbours: &mut [u32; 32],
+)
+    requires { ⌜ (i < 32) × (now neighbours ≡ neighbourSets (boxesMeet (now left) (now right) (now low) (now high)) i) ⌝ }
+    ensures { λ r. ⌜ now (neighbours .exit) ≡ neighbourSets (boxesMeet (now (left .entry)) (now (right .entry)) (now (low .entry)) (now (high .entry))) (i + 1) ⌝ }
+{
+    let mut j: usize = 0;
+    while j < i {
+        compare(left, right, low, high, i, j, neighbours);
+        j += 1;
+    }
+}
+
+// The set of the runs that each of the first n runs meets. Each pair is compared once.
+pub fn neighbours(
+    x1: &[u32; 32],
+    y1: &[u32; 32],
+    x2: &[u32; 32],
+    y2: &[u32; 32],
+    n: usize,
+) -> [u32; 32]
+    requires { ⌜ n ≤ 32 ⌝ }
+    ensures { λ r. ⌜ r ≡ neighbourSets (meetsIn (runsOf (now (x1 .entry)) (now (y1 .entry)) (now (x2 .entry)) (now (y2 .entry)) n)) n ⌝ }
+{
+    let x = box_sides(x1, x2);
+    let y = box_sides(y1, y2);
+    let left = x.lower;
+    let right = x.higher;
+    let low = y.lower;
+    let high = y.higher;
+    let mut sets = [0u32; 32];
+    let mut i: usize = 0;
+    while i < n {
+        compare_all(&left, &right, &low, &high, i, &mut sets);
+        i += 1;
+    }
+    sets
+}
+
+// The centre of a star by its index, or none.
+pub enum Star {
+    Centre(usize),
+    NoStar,
+}
+
+// How many runs run i meets.
+pub fn meets_of(neighbours: &[u32; 32], i: usize) -> u32
+    requires { ⌜ i < 32 ⌝ }
+    ensures { λ r. ⌜ r ≡ degree (joinedIn (now (neighbours .entry))) (below 32) i ⌝ }
+{
+    sets::size(neighbours[i])
+}
+
+// Run i is c, or meets no run of the group but c.
+fn is_leaf(neighbours: &[u32; 32], group: u32, c: usize, i: usize) -> bool
+    requires { ⌜ (c < 32) × (i < 32) ⌝ }
+    ensures { λ r. ⌜ r ≡ leafOf (joinedIn (now (neighbours .entry))) (members group) c i ⌝ }
+{
+    let met = sets::both(neighbours[i], group);
+    let centre = sets::add(0, c);
+    (i == c) | sets::subset(met, centre)
+}
+
+// Every run of the group is c or a leaf.
+fn are_leaves(neighbours: &[u32; 32], group: u32, c: usize) -> bool
+    requires { ⌜ c < 32 ⌝ }
+    ensures { λ r. ⌜ r ≡ every (leafOf (joinedIn (now (neighbours .entry))) (members group) c) (members group) ⌝ }
+{
+    let mut i: usize = 0;
+    while i < 32 {
+        if sets::member(group, i) & !is_leaf(neighbours, group, c, i) {
+            return false;
+        }
+        i += 1;
+    }
+    true
+}
+
+// Run c meets every other run of the group, and no two others meet.
+fn is_centre(neighbours: &[u32; 32], group: u32, c: usize) -> bool
+    requires { ⌜ c < 32 ⌝ }
+    ensures { λ r. ⌜ r ≡ isCentre (joinedIn (now (neighbours .entry))) (members group) c ⌝ }
+{
+    if sets::subset(group, sets::add(neighbours[c], c)) {
+        return are_leaves(neighbours, group, c);
+    }
+    false
+}
+
+// The centres below c, with c if it is one.
+fn with_centre(neighbours: &[u32; 32], group: u32, c: usize, found: u32) -> u32
+    requires { ⌜ (c < 32) × (found ≡ pack (centreIn (joinedIn (now neighbours)) group) c) ⌝ }
+    ensures { λ r. ⌜ r ≡ pack (centreIn (joinedIn (now (neighbours .entry))) group) (c + 1) ⌝ }
+{
+    if sets::member(group, c) & is_centre(neighbours, group, c) {
+        return sets::add(found, c);
+    }
+    found
+}
+
+// The star of a group: its lowest centre.
+pub fn star_of(neighbours: &[u32; 32], group: u32) -> Star
+    ensures { λ r. ⌜ r ≡ starOf (centres (joinedIn (now (neighbours .entry))) (members group)) ⌝ }
+{
+    let mut found: u32 = 0;
+    let mut c: usize = 0;
+    while c < 32 {
+        found = with_centre(neighbours, group, c, found);
+        c += 1;
+    }
+    if found == 0 {
+        return Star::NoStar;
+    }
+    Star::Centre(sets::lowest(found) as usize)
+}

@@ -1,0 +1,2 @@
+-- What the contracts of `intersection_vectors` cite.
+pub mod Text

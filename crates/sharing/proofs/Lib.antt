@@ -1,0 +1,20 @@
+-- The laws of sharing, by topic: over numbers first, then in the plane. docs/PROOF.md has the argument in prose.
+pub mod Steps
+pub mod Owners
+pub mod Table
+pub mod Bound
+pub mod Trace
+pub mod Stretch
+pub mod Leaf
+pub mod View
+pub mod Frames
+pub mod Slopes
+pub mod Centre
+pub mod Sums
+pub mod Most
+pub mod Attained
+pub mod Excess
+pub mod Theorem
+pub mod Runs
+pub mod Fill
+pub mod Sample

@@ -1,0 +1,129 @@
+-- From runs between vertices of a grid to the centre's view: a planner that knows the index of the line of each coordinate has the view and the boxes.
+-- So every star has best routes.
+use mathlib.Core.Path.{_≡_, refl, ap, ap₂, _∙_}
+use mathlib.Core.Bool.{Bool, true, false}
+use mathlib.Core.List.{List, [], _∷_}
+use Prim.Native.Nat.{ℕ, zero, suc, _≤_, _<_}
+use native.Mathlib.Omega.{arith}
+use native.Mathlib.Decide.{decLt}
+use lib.Dec.{ltb}
+use borrow.Author.Tests.{ltb-true, ltb-false}
+use lib.ListN.{length, getD}
+use Rattle.network.specs.Plane.{Point, Run, _to_}
+use Rattle.network.specs.Grid.{Grid}
+use Rattle.network.specs.Route.{Route, Vertex}
+use Rattle.network.specs.Graph.{runAt, meets, below, isCentre}
+use Rattle.network.specs.Boxes.{Placed}
+use Rattle.network.specs.Steps.{Dir, hor, ver, Lane, forth, Frame, drawn}
+use Rattle.network.proofs.Lanes.{point-path}
+use Rattle.network.proofs.Hanan.{placed-frame}
+use Rattle.sharing.specs.Box.{Box}
+use Rattle.sharing.specs.Table.{figure}
+use Rattle.sharing.specs.Trace.{trace}
+use Rattle.sharing.specs.View.{lines, View, facing, index, numbered, boxAt, coordinate, Shows}
+use Rattle.sharing.specs.Star.{starOf, Centred, stepsOf, Best}
+use Rattle.sharing.proofs.Fill.{filled, filled-exact}
+use Rattle.sharing.proofs.Trace.{traced}
+use Rattle.sharing.proofs.View.{index-fits}
+use Rattle.sharing.proofs.Theorem.{star-centred, star-best}
+
+-- ---- boxes from the indexes of lines
+
+abbrev coordinateOf : Point → Dir → ℕ
+coordinateOf p hor = p .x
+coordinateOf p ver = p .y
+
+-- the point is where the lines with the indexes i cross
+pub record Indexed (g : Grid) (p : Point) (i : Dir → ℕ) : Type 0 where
+  pub fits : (d : Dir) → i d < length (lines g d)
+  pub at-line : (d : Dir) → getD (lines g d) (i d) 0 ≡ coordinateOf p d
+
+-- counting back and back again
+index-twice : (f : Bool) (n i : ℕ) → i < n → index f n (index f n i) ≡ i
+index-twice false n i h = refl
+index-twice true n i h = omega arith
+
+module _ (v : View) where
+  point-is : (p : Point) (i : Dir → ℕ) → Indexed (v .grid) p i → (d : Dir) → coordinate v d (numbered v d (i d)) ≡ coordinateOf p d
+  point-is p i x d =
+      ap (λ j. getD (lines (v .grid) d) j 0) (index-twice (v .flip d) (length (lines (v .grid) d)) (i d) (x .fits d)) ∙ x .at-line d
+
+  -- the box of the indexes of a run's lines shows the run
+  pub indexed-shows : (r : Run) (i j : Dir → ℕ) → Indexed (v .grid) (r .first) i → Indexed (v .grid) (r .second) j → Shows v r (boxAt v i j)
+  indexed-shows r i j x y =
+      record {
+        first-fits = λ d. index-fits v d (i d) (x .fits d);
+        second-fits = λ d. index-fits v d (j d) (y .fits d);
+        same-run = ap₂ _to_ (point-path (point-is (r .first) i x hor) (point-is (r .first) i x ver))
+            (point-path (point-is (r .second) j y hor) (point-is (r .second) j y ver));
+      }
+
+-- in the view that faces a run, the run goes right and up
+pub facing-rises : (g : Grid) (i j : Dir → ℕ) → ((d : Dir) → i d < length (lines g d)) → ((d : Dir) → j d < length (lines g d))
+    → (d : Dir) → boxAt (facing g i j) i j .first d ≤ boxAt (facing g i j) i j .second d
+facing-rises g i j h k d = go (ltb (j d) (i d)) refl
+  where
+    go : (f : Bool) → ltb (j d) (i d) ≡ f → index f (length (lines g d)) (i d) ≤ index f (length (lines g d)) (j d)
+    go true e = omega (arith, ltb-true (j d) (i d) e, h d, k d)
+    go false e = ltb-false (j d) (i d) e
+
+-- ---- every star has best routes
+
+-- a point where lines cross is a vertex
+indexed-vertex : {g : Grid} {p : Point} (i : Dir → ℕ) → Indexed g p i → Vertex g p
+indexed-vertex i x = record { column = (i hor, x .fits hor, x .at-line hor); row = (i ver, x .fits ver, x .at-line ver) }
+
+-- f 0, .., f (n - 1)
+tabulate : {A : Type 0} → ℕ → (ℕ → A) → List A
+tabulate zero f = []
+tabulate (suc n) f = f 0 ∷ tabulate n (λ k. f (suc k))
+
+tabulate-length : {A : Type 0} (n : ℕ) (f : ℕ → A) → length (tabulate n f) ≡ n
+unfolding tabulate
+tabulate-length zero f = refl
+tabulate-length (suc n) f = ap suc (tabulate-length n (λ k. f (suc k)))
+
+tabulate-at : {A : Type 0} (n : ℕ) (f : ℕ → A) (z : A) (k : ℕ) → k < n → getD (tabulate n f) k z ≡ f k
+unfolding tabulate
+tabulate-at zero f z k h = absurd (omega arith)
+tabulate-at (suc n) f z zero h = refl
+tabulate-at (suc n) f z (suc k) h = tabulate-at n (λ i. f (suc i)) z k (omega arith)
+
+module _ (g : Grid) (runs : List Run) (firsts seconds : ℕ → Dir → ℕ)
+    (first-at : (k : ℕ) → k < length runs → Indexed g (runAt runs k .first) (firsts k))
+    (second-at : (k : ℕ) → k < length runs → Indexed g (runAt runs k .second) (seconds k)) where
+  -- a frame of run k
+  lanes : (k : ℕ) → Dec (k < length runs) → (X : Lane) × (Y : Lane) × (k < length runs → Frame g (runAt runs k) X Y)
+  lanes k (yes h) =
+      let placed : Placed g (runAt runs k)
+      = record { first-vertex = indexed-vertex (firsts k) (first-at k h); second-vertex = indexed-vertex (seconds k) (second-at k h) } in
+      let (X, Y, f) = placed-frame g (runAt runs k) placed in
+      (X, Y, λ i. f)
+  lanes k (no n) = (forth 0 0, forth 0 0, λ i. absurd (n i))
+
+  -- the view of run c, and the boxes in it
+  abbrev pub viewAt : ℕ → View
+  viewAt c = facing g (firsts c) (seconds c)
+
+  abbrev pub boxIn : ℕ → ℕ → Box
+  boxIn c k = boxAt (viewAt c) (firsts k) (seconds k)
+
+  -- the centre of a star, in its own view
+  pub star-seen : (c : ℕ) → c < length runs → isCentre (meets g runs) (below (length runs)) c ≡ true → Centred (viewAt c) runs (boxIn c) c
+  star-seen c h star =
+      star-centred (viewAt c) runs (boxIn c) c star h (λ k l. indexed-shows (viewAt c) (runAt runs k) (firsts k) (seconds k) (first-at k l) (second-at k l))
+      (facing-rises g (firsts c) (seconds c) (first-at c h .fits) (second-at c h .fits))
+
+  -- the table by recursion and its trace give best routes
+  pub star-has-best : (c : ℕ) → c < length runs → isCentre (meets g runs) (below (length runs)) c ≡ true
+      → (routes : List Route) × Best g runs routes (figure (starOf (viewAt c) runs (boxIn c) c) (filled (starOf (viewAt c) runs (boxIn c) c)))
+  star-has-best c h star =
+      let I = starOf (viewAt c) runs (boxIn c) c in
+      let X : ℕ → Lane = λ k. lanes k (decLt k (length runs)) .0 in
+      let Y : ℕ → Lane = λ k. lanes k (decLt k (length runs)) .1 in
+      let route : ℕ → Route = λ k. drawn g (X k) (Y k) (stepsOf I c (trace I (filled I)) k) in
+      let frames : (k : ℕ) → k < length runs → Frame g (runAt runs k) (X k) (Y k) = λ k l. lanes k (decLt k (length runs)) .2 l in (
+        tabulate (length runs) route,
+        star-best (viewAt c) runs (boxIn c) c (star-seen c h star) (filled I) (trace I (filled I)) (traced I (filled I) (filled-exact I)) X Y frames
+            (tabulate (length runs) route) star (filled-exact I) (tabulate-length (length runs) route) (λ k l. tabulate-at (length runs) route [] k l),
+      )
