@@ -42,6 +42,7 @@ pub record Carried (a : Axis) (v : ℕ) (l : List ℕ) (w i : ℕ) : Type 0 wher
   pub whole : take i l ++ insert w (drop i (linesOf a)) ≡ insert v (linesOf a)
 
 module _ (a : Axis) (v : ℕ) (h : Room a) where
+  -- an axis with room for one more is its lines, and zeros behind them
   lines-are : a .lines ≡ padded 64 (linesOf a)
   lines-are = ap (λ (b : Axis). b .lines) (h .held)
 
@@ -52,6 +53,7 @@ module _ (a : Axis) (v : ℕ) (h : Room a) where
   size-is = ap length lines-are ∙ length-append (linesOf a) (replicate (64 - length (linesOf a)) 0)
       ∙ ap (λ (n : ℕ). length (linesOf a) + n) (length-replicate (64 - length (linesOf a)) 0) ∙ omega (arith, count-is, h .room)
 
+  -- at first nothing is done, and the value itself is carried
   pub carried-start : Carried a v (a .lines) v 0
   carried-start = record { within = omega arith; size = size-is; rest = refl; whole = refl }
 
@@ -62,6 +64,7 @@ module _ (a : Axis) (v : ℕ) (h : Room a) where
         ap (λ (j : ℕ). getD l j 0) (sym (add-zero i)) ∙ sym (getD-drop i l 0 0) ∙ ap (λ (m : List ℕ). getD m 0 0) (c .rest)
         ∙ getD-drop i (a .lines) 0 0 ∙ ap (λ (j : ℕ). getD (a .lines) j 0) (add-zero i) ∙ sym (getD-take (a .count) (a .lines) i 0 k)
 
+    -- the lines that are not done start with the one at this place
     rest-is : i < a .count → drop i (linesOf a) ≡ getD l i 0 ∷ drop (suc i) (linesOf a)
     rest-is k = drop-cons (linesOf a) i 0 (omega (arith, count-is)) ∙ ap (λ (x : ℕ). x ∷ drop (suc i) (linesOf a)) (sym (line-at k))
 

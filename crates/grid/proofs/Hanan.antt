@@ -12,13 +12,16 @@ use Rattle.network.specs.Graph.{origin, runAt}
 use Rattle.network.specs.Boxes.{Placed}
 use Rattle.network.proofs.Lists.{each-member, index-member}
 use Rattle.network.proofs.Hanan.{distinct-listed, hanan-placed-at}
+use Rattle.grid.specs.declared.Axis.{Axis}
 use Rattle.grid.specs.Tables.{table}
 use Rattle.grid.specs.Runs.{runOf, runsOf}
-use Rattle.grid.specs.Lines.{values}
+use Rattle.grid.specs.Lines.{values, axisOf, lengthAt}
 use Rattle.grid.proofs.Tables.{length-table, getD-table}
+use Rattle.grid.proofs.Places.{length-below}
 
 -- ---- the runs of four arrays
 
+-- they are n
 pub length-runs : (x1 y1 x2 y2 : List ℕ) (n : ℕ) → length (runsOf x1 y1 x2 y2 n) ≡ n
 unfolding runsOf
 length-runs x1 y1 x2 y2 n = length-table (runOf x1 y1 x2 y2) n
@@ -66,6 +69,13 @@ columns-are x1 y1 x2 y2 n = ap distinct (xs-runs x1 y1 x2 y2 n)
 pub rows-are : (x1 y1 x2 y2 : List ℕ) (n : ℕ) → hanan (runsOf x1 y1 x2 y2 n) .rows ≡ distinct (values y1 y2 n)
 rows-are x1 y1 x2 y2 n = ap distinct (ys-runs x1 y1 x2 y2 n)
 
+-- so an axis that holds the distinct values holds the grid's lines
+pub axis-columns : (x1 y1 x2 y2 : List ℕ) (n : ℕ) (a : Axis) → a ≡ axisOf (distinct (values x1 x2 n)) → a ≡ axisOf (hanan (runsOf x1 y1 x2 y2 n) .columns)
+axis-columns x1 y1 x2 y2 n a e = e ∙ ap axisOf (sym (columns-are x1 y1 x2 y2 n))
+
+pub axis-rows : (x1 y1 x2 y2 : List ℕ) (n : ℕ) (a : Axis) → a ≡ axisOf (distinct (values y1 y2 n)) → a ≡ axisOf (hanan (runsOf x1 y1 x2 y2 n) .rows)
+axis-rows x1 y1 x2 y2 n a e = e ∙ ap axisOf (sym (rows-are x1 y1 x2 y2 n))
+
 -- every run is placed on that grid
 pub run-placed : (x1 y1 x2 y2 : List ℕ) (n i : ℕ) → i < n → Placed (hanan (runsOf x1 y1 x2 y2 n)) (runOf x1 y1 x2 y2 i)
 run-placed x1 y1 x2 y2 n i h =
@@ -85,3 +95,8 @@ lines-below first second n m h i k =
     go : (v j : ℕ) → (getD first j 0 ≤ m) × (getD second j 0 ≤ m) → (v ≡ getD first j 0) ⊎ Member v (getD second j 0 ∷ []) → v ≤ m
     go v j b (inl e) = omega arith
     go v j b (inr o) = omega (arith, List·Memᴰ·eq-of-singleton o)
+
+-- and no edge is longer
+pub length-within : (first second : List ℕ) (n m : ℕ) → ((i : ℕ) → i < n → (getD first i 0 ≤ m) × (getD second i 0 ≤ m))
+    → (i : ℕ) → suc i < length (distinct (values first second n)) → lengthAt (distinct (values first second n)) i ≤ m
+length-within first second n m h i k = length-below (distinct (values first second n)) i m (lines-below first second n m h (suc i) k)

@@ -18,7 +18,8 @@ use Rattle.network.proofs.Numbers.{order}
 use Rattle.network.proofs.Sums.{sum-append}
 use Rattle.network.proofs.Rising.{rising-lt, rising-le}
 use Rattle.grid.specs.Tables.{table, padded}
-use Rattle.grid.specs.Lines.{RisingTo, indexOf, lengthAt}
+use Rattle.grid.specs.declared.Axis.{Axis}
+use Rattle.grid.specs.Lines.{axisOf, RisingTo, indexOf, lengthAt}
 use Rattle.grid.proofs.Tables.{getD-padded, table-same}
 
 -- ---- counting
@@ -44,20 +45,24 @@ count-le t (suc n) = rw count-below (go (t n) (count-le t n))
 
 -- ---- the loop's steps
 
+-- no line is below v among none
 pub index-none : (l : List ℕ) (v : ℕ) → indexOf l 0 v ≡ 0
 unfolding indexOf
 index-none l v = refl
 
+-- the next line is below v
 pub index-more : (l : List ℕ) (n v : ℕ) → getD l n 0 < v → indexOf l (n + 1) v ≡ indexOf l n v + 1
 unfolding indexOf
 index-more l n v h =
     ap (λ k. indexOf l k v) (add-one n) ∙ count-below (λ i. ltb (getD l i 0) v) n ∙ ap (λ b. indexOf l n v + cond b 1 0) (lt-ltb (getD l n 0) v h)
 
+-- the next line is not below v
 pub index-still : (l : List ℕ) (n v : ℕ) → v ≤ getD l n 0 → indexOf l (n + 1) v ≡ indexOf l n v
 unfolding indexOf
 index-still l n v h =
     ap (λ k. indexOf l k v) (add-one n) ∙ count-below (λ i. ltb (getD l i 0) v) n ∙ ap (λ b. indexOf l n v + cond b 1 0) (le-ltb (getD l n 0) v h) ∙ omega arith
 
+-- no more lines are below v than there are
 pub index-le : (l : List ℕ) (n v : ℕ) → indexOf l n v ≤ n
 unfolding indexOf
 index-le l n v = count-le (λ i. ltb (getD l i 0) v) n
@@ -74,33 +79,44 @@ module _ (l : List ℕ) (r : Rising l) where
       go (inl p) e = index-still l m (getD l i 0) (rising-le l r i m p (omega arith)) ∙ omega arith
       go (inr p) e = index-more l m (getD l i 0) (rising-lt l r m i p h) ∙ omega arith
 
--- the lines of an array that holds a list are the list's
-index-held : (l : List ℕ) (v : ℕ) → indexOf (padded 64 l) (length l) v ≡ indexOf l (length l) v
+-- where v is line i, its position is i
+index-is : (l : List ℕ) → Rising l → (i : ℕ) → i < length l → indexOf (padded 64 l) (length l) (getD l i 0) ≡ i
 unfolding indexOf
-index-held l v = count-same _ _ (length l) (λ i h. ap (λ x. ltb x v) (getD-padded 64 l i h))
+index-is l r i h =
+    count-same _ _ (length l) (λ k o. ap (λ x. ltb x (getD l i 0)) (getD-padded 64 l k o))
+    ∙ index-upto l r i (length l) h (le-refl (length l)) ∙ omega arith
 
--- the position of line i is i
-pub position-is : (l : List ℕ) → Rising l → (i : ℕ) → i < length l → indexOf (padded 64 l) (length l) (getD l i 0) ≡ i
-position-is l r i h = index-held l (getD l i 0) ∙ index-upto l r i (length l) h (le-refl (length l)) ∙ omega arith
+-- ---- an axis that holds rising lines
 
--- the line at the position of a listed value is the value again
-pub position-line : (l : List ℕ) → Rising l → (v : ℕ) → Listed l v
-    → (indexOf (padded 64 l) (length l) v < length l) × (getD l (indexOf (padded 64 l) (length l) v) 0 ≡ v)
-position-line l r v (i, h, e) =
-    let p : indexOf (padded 64 l) (length l) v ≡ i = ap (λ x. indexOf (padded 64 l) (length l) x) (sym e) ∙ position-is l r i h in
-    (omega arith, ap (λ k. getD l k 0) p ∙ e)
+module _ (a : Axis) (l : List ℕ) (e : a ≡ axisOf l) where
+  -- its words are the lines
+  pub axis-line : (i : ℕ) → i < length l → getD (a .lines) i 0 ≡ getD l i 0
+  axis-line i h = ap (λ (b : Axis). getD (b .lines) i 0) e ∙ getD-padded 64 l i h
 
--- ---- lengths
+  -- and so is their number
+  pub axis-count : a .count ≡ length l
+  axis-count = ap (λ (b : Axis). b .count) e
 
--- the lines of an array that holds a rising list rise
-pub padded-rises : (l : List ℕ) → Rising l → RisingTo (padded 64 l) (length l)
-padded-rises l r i h = omega (arith, r i h, getD-padded 64 l i (omega arith), getD-padded 64 l (suc i) h)
+  module _ (r : Rising l) where
+    -- they rise
+    pub axis-rises : RisingTo (a .lines) (a .count)
+    axis-rises i h = omega (arith, axis-count, r i (omega (arith, axis-count)), axis-line i (omega (arith, axis-count)), axis-line (suc i) (omega (arith, axis-count)))
 
--- the lengths that an array of lines gives are the list's
-pub lengths-held : (l : List ℕ) → table (lengthAt (padded 64 l)) (pred (length l)) ≡ table (lengthAt l) (pred (length l))
-lengths-held l =
-    table-same (lengthAt (padded 64 l)) (lengthAt l) (pred (length l))
-    (λ i h. ap₂ (λ a b. a - b) (getD-padded 64 l (suc i) (omega arith)) (getD-padded 64 l i (omega arith)))
+    -- the position of line i is i
+    pub position-is : (i : ℕ) → i < length l → indexOf (a .lines) (a .count) (getD l i 0) ≡ i
+    position-is i h = ap (λ (b : Axis). indexOf (b .lines) (b .count) (getD l i 0)) e ∙ index-is l r i h
+
+    -- the line at the position of a listed value is the value again
+    pub position-line : (v : ℕ) → Listed l v → (indexOf (a .lines) (a .count) v < length l) × (getD l (indexOf (a .lines) (a .count) v) 0 ≡ v)
+    position-line v (i, h, q) =
+        let p : indexOf (a .lines) (a .count) v ≡ i = ap (indexOf (a .lines) (a .count)) (sym q) ∙ position-is i h in
+        (omega arith, ap (λ k. getD l k 0) p ∙ q)
+
+  -- the lengths of the edges between neighbouring lines
+  pub axis-lengths : table (lengthAt (a .lines)) (pred (a .count)) ≡ table (lengthAt l) (pred (length l))
+  axis-lengths =
+      ap (λ n. table (lengthAt (a .lines)) (pred n)) axis-count
+      ∙ table-same (lengthAt (a .lines)) (lengthAt l) (pred (length l)) (λ i h. ap₂ (λ x y. x - y) (axis-line (suc i) (omega arith)) (axis-line i (omega arith)))
 
 -- an edge has a length, which is at most the coordinate where it ends
 pub length-positive : (l : List ℕ) → Rising l → (i : ℕ) → suc i < length l → 0 < lengthAt l i

@@ -12,6 +12,7 @@ use Rattle.network.proofs.Numbers.{order}
 use Rattle.grid.specs.Tables.{table, padded}
 
 module _ {A : Type 0} (f : ℕ → A) where
+  -- a table of n entries
   pub length-table : (n : ℕ) → length (table f n) ≡ n
   length-table zero = refl
   length-table (suc n) = length-append (table f n) (f n ∷ []) ∙ omega (arith, length-table n)
@@ -32,6 +33,7 @@ table-same f g (suc n) h = ap₂ (λ l a. l ++ (a ∷ [])) (table-same f g n (λ
 
 -- ---- arrays
 
+-- the array is as long as it says
 pub length-padded : (k : ℕ) (l : List ℕ) → length l ≤ k → length (padded k l) ≡ k
 length-padded k l h = length-append l (replicate (k - length l) 0) ∙ omega (arith, length-replicate {A = ℕ} (k - length l) 0)
 
@@ -39,6 +41,7 @@ length-padded k l h = length-append l (replicate (k - length l) 0) ∙ omega (ar
 pub getD-padded : (k : ℕ) (l : List ℕ) (i : ℕ) → i < length l → getD (padded k l) i 0 ≡ getD l i 0
 getD-padded k l i h = List·getD-append l (replicate (k - length l) 0) 0 i h
 
+-- behind the list
 pub getD-behind : (k : ℕ) (l : List ℕ) (i : ℕ) → length l ≤ i → getD (padded k l) i 0 ≡ 0
 getD-behind k l i h =
     let e : length l + (i - length l) ≡ i = omega arith in

@@ -27,6 +27,7 @@ module _ (first second : List ℕ) where
       ∙ distinct-last (values first second n ++ (getD first n 0 ∷ [])) (getD second n 0)
       ∙ ap (insert (getD second n 0)) (distinct-last (values first second n) (getD first n 0))
 
+  -- two values a run
   length-values : (n : ℕ) → length (values first second n) ≡ n + n
   unfolding values
   length-values zero = refl

@@ -24,7 +24,7 @@ pub fn most(a: u32, b: u32) -> u32
 }
 
 // The axis with one line more, if it has none at v. Each line from there on is carried to the next place.
-pub fn with_line(a: Axis, v: u32) -> Axis
+fn with_line(a: Axis, v: u32) -> Axis
     requires { ⌜ Room a ⌝ }
     ensures { λ r. ⌜ r ≡ axisOf (insert v (linesOf a)) ⌝ }
 {
@@ -51,7 +51,7 @@ pub fn with_line(a: Axis, v: u32) -> Axis
 // The lines of the first n runs on one axis, of which the arrays hold the first and the second points' values.
 pub fn axis_of(first: &[u32; 32], second: &[u32; 32], n: usize) -> Axis
     requires { ⌜ n ≤ 32 ⌝ }
-    ensures { λ r. ⌜ r ≡ axisOf (distinct (values (now (first .entry)) (now (second .entry)) n)) ⌝ }
+    ensures { λ r. ⌜ (r ≡ axisOf (distinct (values (now (first .entry)) (now (second .entry)) n))) × (r .count ≤ 64) ⌝ }
 {
     let mut a = Axis {
         lines: [0u32; 64],
@@ -68,7 +68,7 @@ pub fn axis_of(first: &[u32; 32], second: &[u32; 32], n: usize) -> Axis
 // How many of the first count lines are below v: the index of the line at v, where there is one.
 pub fn position(lines: &[u32; 64], count: usize, v: u32) -> usize
     requires { ⌜ count ≤ 64 ⌝ }
-    ensures { λ r. ⌜ r ≡ indexOf (now (lines .entry)) count v ⌝ }
+    ensures { λ r. ⌜ (r ≡ indexOf (now (lines .entry)) count v) × (r ≤ count) ⌝ }
 {
     let mut k: usize = 0;
     let mut i: usize = 0;

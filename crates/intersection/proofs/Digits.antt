@@ -1,6 +1,6 @@
 -- The members of a set are its digits: of `|`, of `&`, of 2 ^ i, and of the set of the numbers that pass a test.
 use mathlib.Core.Path.{_≡_, refl, sym, ap, ap₂, _∙_, subst}
-use mathlib.Core.Bool.{Bool, true, false, cond, _&&_, _||_, or-comm}
+use mathlib.Core.Bool.{Bool, true, false, not, cond, _&&_, _||_, or-comm, and-true, and-false, true≢false}
 use mathlib.Core.Logic.{_⊎_, inl, inr}
 use Prim.Native.Nat.{ℕ, zero, suc, _+_, _-_, _*_, _/_, _%_, _^_, _≤_, _<_, min, max, zero-le}
 use native.Mathlib.Nat.{
@@ -19,6 +19,7 @@ use native.Mathlib.Nat.{
   one-mul,
   le-refl,
   lt-of-lt-of-le,
+  lt-of-le-of-lt,
   zero-lt-suc,
   pow-suc,
 }
@@ -28,9 +29,9 @@ use native.Mathlib.Omega.{arith}
 use lib.Dec.{eqb, lit<}
 use lib.Arith.{digits-mod}
 use lib.Pow.{pow-pos, pow-lt, pow-mono, field, mod-mod-pow, low, high, mod-pow-add, shr-shr}
-use lib.Bits.{bitAnd, bitOr, and-step, or-step, and-shr, or-shr}
+use lib.Bits.{bitAnd, bitOr, and-step, or-step, and-shr, or-shr, and-le-l}
 use lib.Count.{trailingZeros, under}
-use borrow.Author.Tests.{eq-eqb, ne-eqb}
+use borrow.Author.Tests.{eq-eqb, ne-eqb, eqb-true}
 use Rattle.intersection.specs.Sets.{has, pack}
 
 -- ---- the digits of a number
@@ -41,6 +42,7 @@ digit-is zero h = refl
 digit-is (suc zero) h = refl
 digit-is (suc (suc d)) h = absurd (not-suc-le-zero (le-of-suc-le-suc (le-of-suc-le-suc h)))
 
+-- a digit is below 2
 digit-lt : (s j : ℕ) → s / 2 ^ j % 2 < 2
 digit-lt s j = mod-lt (s / 2 ^ j) (zero-lt-suc 1)
 
@@ -90,6 +92,7 @@ and-one true false = refl
 and-one false true = refl
 and-one false false = refl
 
+-- the lowest digit of a union, and of an intersection
 or-low : (a b : ℕ) → bitOr a b % 2 ≡ max (a % 2) (b % 2)
 or-low a b =
     let ha = mod-lt a (zero-lt-suc 1) in
@@ -142,25 +145,29 @@ has-add s i h j =
 
 -- ---- the set of the numbers that pass
 
+-- one digit more
 cond-lt : (b : Bool) (n r : ℕ) → r < 2 ^ n → cond b (2 ^ n) 0 + r < 2 ^ suc n
 cond-lt true n r h = rw pow-suc (omega arith)
 cond-lt false n r h = rw pow-suc (omega arith)
 
+-- no numbers, no members
 pub pack-none : (f : ℕ → Bool) → pack f 0 ≡ 0
 unfolding pack
 pack-none f = refl
 
+-- a set of numbers below n fits n digits
 pub pack-lt : (f : ℕ → Bool) (n : ℕ) → pack f n < 2 ^ n
 unfolding pack
 pack-lt f zero = lit< tt
 pack-lt f (suc n) = cond-lt (f n) n (pack f n) (pack-lt f n)
 
--- a number's n low digits are the set of its members below n
+-- a digit at its place
 cond-digit : (d n : ℕ) → d < 2 → cond (eqb d 1) (2 ^ n) 0 ≡ d * 2 ^ n
 cond-digit zero n h = sym (zero-mul (2 ^ n))
 cond-digit (suc zero) n h = sym (one-mul (2 ^ n))
 cond-digit (suc (suc d)) n h = absurd (not-suc-le-zero (le-of-suc-le-suc (le-of-suc-le-suc h)))
 
+-- a number's n low digits are the set of its members below n
 pack-low : (s n : ℕ) → pack (has s) n ≡ s % 2 ^ n
 unfolding pack
 pack-low s zero = sym (mod-one s)
@@ -172,6 +179,7 @@ pack-low s (suc n) =
 pub pack-has : (s n : ℕ) → s < 2 ^ n → pack (has s) n ≡ s
 pack-has s n h = pack-low s n ∙ mod-eq-of-lt h
 
+-- the digit that was put on top, and those under it
 cond-top : (b : Bool) (n r : ℕ) → r < 2 ^ n → has (cond b (2 ^ n) 0 + r) n ≡ b
 cond-top true n r h = top-has n r h
 cond-top false n r h = ap (λ (m : ℕ). has m n) (zero-add r) ∙ high-has r n n h (le-refl n)
@@ -190,6 +198,7 @@ has-pack f (suc n) j h = go (λ (l : j < n). has-pack f n j l) (eq-or-lt-of-le (
     go ih (inl e) = subst (λ (k : ℕ). has (cond (f n) (2 ^ n) 0 + pack f n) k ≡ f k) (sym e) (cond-top (f n) n (pack f n) (pack-lt f n))
     go ih (inr l) = cond-under (f n) n (pack f n) j (pack-lt f n) l ∙ ih l
 
+-- and no others
 pub has-pack-above : (f : ℕ → Bool) (n j : ℕ) → n ≤ j → has (pack f n) j ≡ false
 has-pack-above f n j h = high-has (pack f n) n j (pack-lt f n) h
 
@@ -228,3 +237,26 @@ trailing-at (suc k) s h = go (λ l. trailing-at k (s / 2) l) (s % 2) refl h
     go ih zero e l = sym (half-has s (trailingZeros k (s / 2))) ∙ ih (le-of-suc-le-suc l)
     go ih (suc zero) e l = ap (λ (q : ℕ). eqb (q % 2) 1) (div-one s) ∙ ap (λ (d : ℕ). eqb d 1) e
     go ih (suc (suc d)) e l = absurd (omega (arith, mod-lt s (zero-lt-suc 1)))
+
+-- ---- one member
+
+-- the code's `s & (1 << i)` is not 0 exactly if i is a member
+pub member-is : (s i : ℕ) → s < 2 ^ 32 → i < 32 → not (eqb (bitAnd s (1 * 2 ^ i % 2 ^ 32)) 0) ≡ has s i
+member-is s i h l = ap (λ (m : ℕ). not (eqb (bitAnd s m) 0)) (shl-one 32 i l) ∙ go (has s i) refl
+  where
+    at : (j : ℕ) → has (bitAnd s (2 ^ i)) j ≡ (has s j && eqb j i)
+    at j = has-and s (2 ^ i) j ∙ ap (λ (b : Bool). has s j && b) (has-power i j)
+
+    go : (b : Bool) → has s i ≡ b → not (eqb (bitAnd s (2 ^ i)) 0) ≡ b
+    go true e =
+        ap not
+        (ne-eqb (bitAnd s (2 ^ i)) 0
+        (λ z. true≢false (sym (at i ∙ ap₂ _&&_ e (eq-eqb i i refl)) ∙ ap (λ (m : ℕ). has m i) z ∙ none-has i)))
+    go false e =
+        ap not
+        (eq-eqb (bitAnd s (2 ^ i)) 0
+        (same-set 32 (bitAnd s (2 ^ i)) 0 (lt-of-le-of-lt (and-le-l s (2 ^ i)) h) (pow-pos 32) (λ j k. at j ∙ none j (eqb j i) refl ∙ sym (none-has j))))
+      where
+        none : (j : ℕ) (b : Bool) → eqb j i ≡ b → has s j && b ≡ false
+        none j true q = and-true (has s j) ∙ ap (has s) (eqb-true j i q) ∙ e
+        none j false q = and-false (has s j)

@@ -14,13 +14,15 @@ use Rattle.network.proofs.Lists.{every-true}
 use Rattle.network.proofs.Leaves.{member-below}
 use Rattle.intersection.specs.declared.Star.the-variants.{Centre, NoStar}
 use Rattle.intersection.specs.Sets.{has, members, pack}
-use Rattle.intersection.specs.Star.{joinedIn, leafOf, centreIn, starOf}
+use Rattle.intersection.specs.Star.{joinedIn, starOf}
+use Rattle.intersection.specs.Steps.{leafOf, centreIn}
 use Rattle.intersection.proofs.Digits.{none-has, pack-lt}
 use Rattle.intersection.proofs.Lists.{every-select, every-or, every-below, every-same, select-select}
 use Rattle.intersection.proofs.Members.{members-pack, members-none, members-some}
 
 -- ---- leaves
 
+-- both ways to say it of one run
 leaf-test : (g n e z : Bool) → z ≡ false → not g || (e || not n) ≡ not (n && g) || (e || z)
 leaf-test true true true z h = refl
 leaf-test true true false z h = sym h
@@ -45,18 +47,22 @@ leaf-is sets group c i met centre p q =
 
 -- ---- every member of a group, one number after the other
 
+-- i is no member of the group, or passes
 abbrev pub unless : ℕ → (ℕ → Bool) → ℕ → Bool
 unless group t i = not (has group i) || t i
 
+-- every member passes where every number does, unless it is no member
 pub every-member : (group : ℕ) (t : ℕ → Bool) → every t (members group) ≡ every (unless group t) (below 32)
 unfolding members
 every-member group t = every-select t (has group) (below 32)
 
+-- no failure: no member, or one that passes
 passes : (m t : Bool) → (m && not t) ≡ false → not m || t ≡ true
 passes true true e = refl
 passes true false e = absurd (true≢false e)
 passes false t e = refl
 
+-- a failure
 fails : (m t : Bool) → (m && not t) ≡ true → not m || t ≡ false
 fails true true e = sym e
 fails true false e = refl
@@ -90,6 +96,7 @@ pub centre-is : (joined : ℕ → ℕ → Bool) (group : List ℕ) (c : ℕ) (le
 unfolding isCentre
 centre-is joined group c leaves p q = q ∙ sym (ap (λ (b : Bool). b && every (leafOf joined group c) group) p)
 
+-- where the first fails there is no centre
 pub no-centre : (joined : ℕ → ℕ → Bool) (group : List ℕ) (c : ℕ) → every (λ i. eqb i c || joined c i) group ≡ false → false ≡ isCentre joined group c
 unfolding isCentre
 no-centre joined group c p = sym (ap (λ (b : Bool). b && every (leafOf joined group c) group) p)
@@ -105,9 +112,11 @@ module _ (joined : ℕ → ℕ → Bool) (group found : ℕ) (e : found ≡ pack
   centres-are =
       ap members e ∙ members-pack (centreIn joined group) ∙ sym (select-select (isCentre joined (members group)) (has group) (below 32))
 
+  -- an empty set of centres: no star
   pub star-none : found ≡ 0 → NoStar ≡ starOf (centres joined (members group))
   star-none z = ap starOf (sym (members-none found found-lt z) ∙ centres-are)
 
+  -- else the lowest is the star
   pub star-some : (found ≡ 0 → ⊥) → (c : ℕ) → c ≡ getD (members found) 0 32 → Centre c ≡ starOf (centres joined (members group))
   star-some n c q =
       let (d, rest, p) = members-some found found-lt (omega arith) in

@@ -17,6 +17,7 @@ abbrev pub kept : {A : Type 0} → Bool → A → List A → List A
 kept true a l = a ∷ l
 kept false a l = l
 
+-- one element more, which is kept or left out
 pub select-cons : {A : Type 0} (t : A → Bool) (a : A) (l : List A) → select t (a ∷ l) ≡ kept (t a) a (select t l)
 select-cons {A} t a l = go (t a)
   where
@@ -24,6 +25,7 @@ select-cons {A} t a l = go (t a)
     go true = refl
     go false = refl
 
+-- a choice of two lists
 pub select-append : {A : Type 0} (t : A → Bool) (l k : List A) → select t (l ++ k) ≡ select t l ++ select t k
 select-append t [] k = refl
 select-append {A} t (a ∷ l) k = select-cons t a (l ++ k) ∙ go (t a) (select-append t l k) ∙ sym (ap (λ (m : List A). m ++ select t k) (select-cons t a l))
@@ -67,6 +69,7 @@ every-select {A} f t (a ∷ l) = ap (every f) (select-cons t a l) ∙ go (t a) (
 
 -- ---- every element
 
+-- every element of two lists
 pub every-append : {A : Type 0} (f : A → Bool) (l k : List A) → every f (l ++ k) ≡ every f l && every f k
 every-append f [] k = refl
 every-append f (a ∷ l) k = ap (λ (r : Bool). f a && r) (every-append f l k) ∙ sym (and-assoc (f a) (every f l) (every f k))
@@ -84,12 +87,15 @@ every-cong f g (a ∷ l) h = ap₂ _&&_ (h a (here refl)) (every-cong f g l (λ 
 
 -- ---- the numbers below n
 
+-- one number more
 pub every-below : (f : ℕ → Bool) (n : ℕ) → every f (below (suc n)) ≡ every f (below n) && f n
 every-below f n = every-append f (below n) (n ∷ []) ∙ ap (λ (r : Bool). every f (below n) && r) (and-true (f n))
 
+-- tests that are equal below n give equal answers
 pub every-same : (f g : ℕ → Bool) (n : ℕ) → ((j : ℕ) → j < n → f j ≡ g j) → every f (below n) ≡ every g (below n)
 every-same f g n h = every-cong f g (below n) (λ j m. h j (below-member n j m))
 
+-- and choose the same
 pub select-same : (f g : ℕ → Bool) (n : ℕ) → ((j : ℕ) → j < n → f j ≡ g j) → select f (below n) ≡ select g (below n)
 select-same f g n h = select-cong f g (below n) (λ j m. h j (below-member n j m))
 
@@ -115,7 +121,8 @@ select-first f (suc n) m h t e = go (eq-or-lt-of-le (le-of-suc-le-suc h)) (λ k.
     go (inl k) ih = (
       [],
       select-append f (below n) (n ∷ [])
-          ∙ ap₂ _++_ (select-none f (below n) (λ j l. e j (omega (arith, below-member n j l)))) (select-cons f n [] ∙ ap (λ (b : Bool). kept b n []) (ap f (sym k) ∙ t) ∙ ap (λ (i : ℕ). i ∷ []) (sym k)),
+          ∙ ap₂ _++_ (select-none f (below n) (λ j l. e j (omega (arith, below-member n j l))))
+          (select-cons f n [] ∙ ap (λ (b : Bool). kept b n []) (ap f (sym k) ∙ t) ∙ ap (λ (i : ℕ). i ∷ []) (sym k)),
     )
     go (inr k) ih =
         let (rest, p) = ih k in

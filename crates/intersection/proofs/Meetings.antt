@@ -1,4 +1,9 @@
 -- The sets of neighbours, comparison by comparison; and what the comparison of two boxes says: the runs meet.
+--
+-- Run 1 is compared with run 0, then run 2 with runs 0 and 1, and so on. At any moment each run k has been compared with all runs below some number
+-- (`seen`), and its set holds its neighbours below that number. A comparison of i with j < i raises the number of i from j to j + 1 and that of j
+-- from i to i + 1, so each set grows at its top, by the other run, or stays; all other sets stay. When i has passed all runs before it, it need not be
+-- compared with itself, since no run meets itself: every number is then i + 1.
 use mathlib.Core.Path.{_≡_, refl, sym, ap, ap₂, _∙_, subst}
 use mathlib.Core.Bool.{Bool, true, false, not, cond, _&&_, _||_}
 use mathlib.Core.Logic.{_⊎_, inl, inr}
@@ -24,18 +29,22 @@ use Rattle.grid.proofs.Hanan.{run-at, run-placed}
 use Rattle.intersection.specs.declared.Sides.{Sides}
 use Rattle.intersection.specs.declared.Box.{Box}
 use Rattle.intersection.specs.Sets.{has, pack}
-use Rattle.intersection.specs.Boxes.{sidesOf, boxAt, boxesOverlap, boxesMeet, meetsIn, neighbourSets, seen, partSets, Comparing}
+use Rattle.intersection.specs.Star.{meetsIn, neighbourSets}
+use Rattle.intersection.specs.Steps.{sidesOf, boxAt, boxesOverlap, boxesMeet, seen, partSets, Comparing}
 use Rattle.intersection.proofs.Digits.{pack-none, pack-same}
 use Rattle.intersection.proofs.Members.{pack-add, pack-skip}
 
 -- ---- how many runs a run has been compared with
 
+-- a run that run i has been compared with
 seen-done : (i j k : ℕ) → k < j → seen i j k ≡ suc i
 seen-done i j k h = ap (λ (b : Bool). cond b (suc i) (cond (ltb k i) i j)) (lt-ltb k j h)
 
+-- a run before i that it has not yet been compared with
 seen-open : (i j k : ℕ) → j ≤ k → k < i → seen i j k ≡ i
 seen-open i j k h l = ap₂ (λ (a b : Bool). cond a (suc i) (cond b i j)) (le-ltb k j h) (lt-ltb k i l)
 
+-- run i itself
 seen-last : (i j : ℕ) → j ≤ i → seen i j i ≡ j
 seen-last i j h = ap₂ (λ (a b : Bool). cond a (suc i) (cond b i j)) (le-ltb i j h) (le-ltb i i (le-refl i))
 
@@ -53,6 +62,7 @@ module _ (joined : ℕ → ℕ → Bool) (i : ℕ) (few : i < 32) where
   part : ℕ → ℕ → ℕ
   part j k = pack (joined k) (seen i j k)
 
+  -- the array and its entries
   part-length : (j : ℕ) → length (partSets joined i j) ≡ 32
   unfolding partSets part
   part-length j = length-padded 32 (table (part j) (suc i)) (omega (arith, length-table (part j) (suc i)))
@@ -99,10 +109,11 @@ module _ (joined : ℕ → ℕ → Bool) (i : ℕ) (few : i < 32) where
           subst (λ k. pack (joined k) (seen i i k) ≡ pack (joined k) (suc i)) e (ap (pack (joined i)) (seen-last i i (le-refl i)) ∙ sym (pack-skip (joined i) i n))
       go k l (inr h) = ap (pack (joined k)) (seen-done i i k h)
 
-  -- the set of run i, and of run j, before they are compared
+  -- the set of run i before it is compared with run j
   pub part-later : (j : ℕ) → j < i → getD (partSets joined i j) i 0 ≡ pack (joined i) j
   part-later j h = part-at j i (le-refl (suc i)) ∙ ap (pack (joined i)) (seen-last i j (omega arith))
 
+  -- and that of run j
   pub part-earlier : (j : ℕ) → j < i → getD (partSets joined i j) j 0 ≡ pack (joined j) i
   part-earlier j h = part-at j j (omega arith) ∙ ap (pack (joined j)) (seen-open i j j (le-refl j) h)
 
@@ -209,6 +220,7 @@ module _ (x1 y1 x2 y2 : List ℕ) (n : ℕ) (few : n ≤ 32) where
       ap₂ (overlap (hanan (runsOf x1 y1 x2 y2 n))) (run-at x1 y1 x2 y2 n i h) (run-at x1 y1 x2 y2 n j k)
       ∙ overlap-is (hanan (runsOf x1 y1 x2 y2 n)) (runOf x1 y1 x2 y2 i) (runOf x1 y1 x2 y2 j) (run-placed x1 y1 x2 y2 n i h) (run-placed x1 y1 x2 y2 n j k)
 
+  -- two runs: the comparison of their boxes says that they meet
   pub boxes-meet : (i j : ℕ) → i < n → j < n → boxes i j ≡ meetsIn (runsOf x1 y1 x2 y2 n) i j
   unfolding boxesMeet meets overlapping
   boxes-meet i j h k =

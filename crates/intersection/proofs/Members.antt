@@ -25,11 +25,13 @@ use Rattle.intersection.proofs.Lists.{every-select, every-same, select-
 
 -- ---- how many
 
+-- one digit more
 cond-ones : (b : Bool) (n r : ℕ) → r < 2 ^ n → ones (cond b (2 ^ n) 0 + r) ≡ ones r + cond b 1 0
 unfolding ones
 cond-ones true n r h = ap (λ (m : ℕ). ones (m + r)) (sym (one-mul (2 ^ n))) ∙ ones-cat n 1 r h ∙ add-comm 1 (ones r)
 cond-ones false n r h = ap ones (zero-add r) ∙ omega arith
 
+-- the ones of the set of a test
 ones-pack : (f : ℕ → Bool) (n : ℕ) → ones (pack f n) ≡ count f (below n)
 unfolding pack ones
 ones-pack f zero = refl
@@ -45,6 +47,7 @@ count-pack f n h = sym (ones-count (pack f n) (lt-of-lt-of-le (pack-lt f n) (pow
 
 -- ---- the members of the set of a test
 
+-- its members are the numbers that pass
 pub members-pack : (f : ℕ → Bool) → members (pack f 32) ≡ select f (below 32)
 unfolding members
 members-pack f = select-same (has (pack f 32)) f 32 (λ j l. has-pack f 32 j l)
@@ -54,14 +57,17 @@ pub members-first : (n : ℕ) → n ≤ 32 → members (pack everyone n) ≡ bel
 unfolding members
 members-first n h = select-below (has (pack everyone n)) n 32 h (λ j l. has-pack everyone n j l) (λ j l. has-pack-above everyone n j l)
 
+-- that set is 2 ^ n less 1
 power-first : (n : ℕ) → pack everyone n + 1 ≡ 2 ^ n
 unfolding pack
 power-first zero = refl
 power-first (suc n) = omega (arith, power-first n, two-pow-succ n)
 
+-- the first n numbers, as the code computes their set
 pub first-is : (n : ℕ) → n ≤ 32 → pack everyone n + 1 ≡ 1 * 2 ^ n % 2 ^ 64
 first-is n h = power-first n ∙ sym (shl-one 64 n (omega arith))
 
+-- it fits a word
 pub first-fits : (n : ℕ) → n ≤ 32 → pack everyone n < 2 ^ 32
 first-fits n h = lt-of-lt-of-le (pack-lt everyone n) (pow-mono h)
 
@@ -96,7 +102,7 @@ module _ (s : ℕ) (h : s < 2 ^ 32) where
       go (inl e) = e ∙ sym (ap (λ (l : List ℕ). getD l 0 32) (lowest-none e .1))
       go (inr l) = sym (ap (λ (l : List ℕ). getD l 0 32) (lowest-some l .1 .1))
 
-  -- a set is empty exactly if its word is 0
+  -- the word 0 has no member
   pub members-none : s ≡ 0 → members s ≡ []
   members-none e = go (eq-or-lt-of-le (trailing-le 32 s))
     where
@@ -104,6 +110,7 @@ module _ (s : ℕ) (h : s < 2 ^ 32) where
       go (inl t) = lowest-none t .1
       go (inr l) = absurd (omega (arith, lowest-some l .0))
 
+  -- and has a first member if it is not
   pub members-some : 0 < s → (c : ℕ) × (rest : List ℕ) × (members s ≡ c ∷ rest)
   members-some p = go (eq-or-lt-of-le (trailing-le 32 s))
     where
@@ -113,6 +120,7 @@ module _ (s : ℕ) (h : s < 2 ^ 32) where
 
 -- ---- a part of another set
 
+-- a part, digit by digit, and back
 implied : (a b : Bool) → a && b ≡ a → not a || b ≡ true
 implied true b e = e
 implied false b e = refl

@@ -22,14 +22,14 @@ use Rattle.grid.proofs.Tables.{length-table, getD-table, getD-padded}
 use Rattle.intersection.specs.declared.Star.{Star}
 use Rattle.intersection.specs.declared.Star.the-variants.{Centre, NoStar}
 use Rattle.intersection.specs.Sets.{has, members, pack, everyone}
-use Rattle.intersection.specs.Boxes.{meetsIn, neighbourSets}
-use Rattle.intersection.specs.Star.{joinedIn, starOf}
+use Rattle.intersection.specs.Star.{meetsIn, neighbourSets, joinedIn, starOf}
 use Rattle.intersection.proofs.Digits.{has-pack}
 use Rattle.intersection.proofs.Lists.{kept, select-append, select-cons, select-cong, every-cong}
 use Rattle.intersection.proofs.Members.{count-pack, members-first}
 
 -- ---- the members of a set rise
 
+-- a rising list goes on with a number above all of it
 rising-last : (l : List ℕ) (v : ℕ) → Rising l → ((i : ℕ) → i < length l → getD l i 0 < v) → Rising (l ++ (v ∷ []))
 rising-last l v r h i k = go (order (length l) (suc i))
   where
@@ -39,6 +39,7 @@ rising-last l v r h i k = go (order (length l) (suc i))
         rw (List·getD-append l (v ∷ []) 0 i (omega arith), getD-at l v [] 0 (suc i) e) (h i (omega arith))
     go (inr m) = rw (List·getD-append l (v ∷ []) 0 i (omega arith), List·getD-append l (v ∷ []) 0 (suc i) m) (r i m)
 
+-- the numbers below n that pass a test rise
 select-rises : (t : ℕ → Bool) (n : ℕ) → Rising (select t (below n))
 select-rises t zero = λ i k. absurd (omega arith)
 select-rises t (suc n) = rw (select-append t (below n) (n ∷ []), select-cons t n []) (go (t n) (select-rises t n))
@@ -50,6 +51,7 @@ select-rises t (suc n) = rw (select-append t (below n) (n ∷ []), select-cons t
     go true r = rising-last (select t (below n)) n r under
     go false r = rw append-nil r
 
+-- so do a set's members
 pub members-rise : (s : ℕ) → Rising (members s)
 unfolding members
 members-rise s = select-rises (has s) 32
@@ -65,6 +67,7 @@ module _ (joined : ℕ → ℕ → Bool) (group : List ℕ) where
       go [] q = refl
       go (c ∷ l) q = let z : _≡_ {A = ℕ} 0 1 = cc in absurd (omega arith)
 
+  -- and back
   pub star-no : ((c : ℕ) → IsCentre joined group c → ⊥) → starOf (centres joined group) ≡ NoStar
   star-no n = ap starOf (none-centres joined group n)
 
@@ -105,12 +108,14 @@ alone joined c =
 -- ---- graphs that are equal on a group
 
 module _ (p q : ℕ → ℕ → Bool) (group : List ℕ) (h : (i j : ℕ) → Member i group → Member j group → p i j ≡ q i j) where
+  -- the same test
   centre-same : (c : ℕ) → Member c group → isCentre p group c ≡ isCentre q group c
   unfolding isCentre
   centre-same c m =
       ap₂ _&&_ (every-cong _ _ group (λ i k. ap (λ (b : Bool). eqb i c || b) (h c i m k)))
       (every-cong _ _ group (λ i k. every-cong _ _ group (λ j l. ap (λ (b : Bool). eqb i c || eqb j c || not b) (h i j k l))))
 
+  -- the same centres
   pub centres-same : centres p group ≡ centres q group
   unfolding centres
   centres-same = select-cong (isCentre p group) (isCentre q group) group centre-same
@@ -145,14 +150,18 @@ module _ (runs : List Run) (n : ℕ) (few : n ≤ 32) where
   abbrev pub answer : Star
   answer = starOf (centres (joinedIn (neighbourSets (meetsIn runs) n)) (members (pack everyone n)))
 
+  -- the run that is named is a centre, and no lower run is one
   pub job-centre : (c : ℕ) → answer ≡ Centre c → IsCentre (meetsIn runs) (below n) c × ((d : ℕ) → d < c → IsCentre (meetsIn runs) (below n) d → ⊥)
   job-centre c e = star-centre (meetsIn runs) (below n) (below-rises n) c (sym (job-star (meetsIn runs) n few) ∙ e)
 
+  -- the lowest centre is named
   pub centre-job : (c : ℕ) → IsCentre (meetsIn runs) (below n) c → ((d : ℕ) → d < c → IsCentre (meetsIn runs) (below n) d → ⊥) → answer ≡ Centre c
   centre-job c k low = job-star (meetsIn runs) n few ∙ centre-star (meetsIn runs) (below n) (below-rises n) c k low
 
+  -- where the answer is none, no run is a centre
   pub job-refused : answer ≡ NoStar → (c : ℕ) → IsCentre (meetsIn runs) (below n) c → ⊥
   job-refused e = no-star (meetsIn runs) (below n) (sym (job-star (meetsIn runs) n few) ∙ e)
 
+  -- and back
   pub refused-job : ((c : ℕ) → IsCentre (meetsIn runs) (below n) c → ⊥) → answer ≡ NoStar
   refused-job h = job-star (meetsIn runs) n few ∙ star-no (meetsIn runs) (below n) h

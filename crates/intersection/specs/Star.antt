@@ -1,27 +1,28 @@
--- The star of a group of runs: "some run, the centre, meets every other run and no two others meet. A single run is its own centre. With two runs
--- that meet, the centre is the one of lower number" (01, Lines, boxes, meeting).
+-- The runs that meet, and the star of a group of them: "some run, the centre, meets every other run and no two others meet. A single run is its own
+-- centre. With two runs that meet, the centre is the one of lower number" (01, Lines, boxes, meeting).
 use mathlib.Core.List.{List, [], _∷_}
-use mathlib.Core.Bool.{Bool, not, _&&_, _||_}
+use mathlib.Core.Bool.{Bool}
 use Prim.Native.Nat.{ℕ}
-use lib.Dec.{eqb}
 use lib.ListN.{getD}
-use Rattle.network.specs.Lists.{every}
-use Rattle.network.specs.Graph.{isCentre}
+use Rattle.network.specs.Plane.{Run}
+use Rattle.network.specs.Hanan.{hanan}
+use Rattle.network.specs.Graph.{meets}
+use Rattle.grid.specs.Tables.{table, padded}
 use Rattle.intersection.specs.declared.Star.{Star}
 use Rattle.intersection.specs.declared.Star.the-variants.{Centre, NoStar}
-use Rattle.intersection.specs.Sets.{has, members}
+use Rattle.intersection.specs.Sets.{has, pack}
 
--- the graph that an array of neighbours holds: i and j are joined where j is in the set of i
+-- runs i and j of some runs meet: some edge of the runs' own Hanan grid lies in both boxes
+abbrev pub meetsIn : List Run → ℕ → ℕ → Bool
+meetsIn runs = meets (hanan runs) runs
+
+-- an array of 32 sets: the neighbours of each of the first n vertices of a graph, among these
+abbrev pub neighbourSets : (ℕ → ℕ → Bool) → ℕ → List ℕ
+neighbourSets joined n = padded 32 (table (λ i. pack (joined i) n) n)
+
+-- the graph that such an array holds: i is joined to the members of its set
 abbrev pub joinedIn : List ℕ → ℕ → ℕ → Bool
 joinedIn sets i j = has (getD sets i 0) j
-
--- i is c, or joined to none of the group but c
-abbrev pub leafOf : (ℕ → ℕ → Bool) → List ℕ → ℕ → ℕ → Bool
-leafOf joined group c i = every (λ j. eqb i c || eqb j c || not (joined i j)) group
-
--- c is one of the group's centres, for a group that is given as a set
-abbrev pub centreIn : (ℕ → ℕ → Bool) → ℕ → ℕ → Bool
-centreIn joined group c = has group c && isCentre joined (members group) c
 
 -- the answer: the first of a group's centres, or none
 abbrev pub starOf : List ℕ → Star

@@ -7,8 +7,8 @@ ghost use Rattle.grid.specs.Runs.{runsOf};
 ghost use Rattle.network.specs.Lists.{every};
 ghost use Rattle.network.specs.Graph.{below, degree, isCentre, centres};
 ghost use Rattle.intersection.specs.Sets.{members, pack};
-ghost use Rattle.intersection.specs.Boxes.{sidesOf, boxAt, boxesOverlap, boxesMeet, meetsIn, neighbourSets, partSets, Comparing};
-ghost use Rattle.intersection.specs.Star.{joinedIn, leafOf, centreIn, starOf};
+ghost use Rattle.intersection.specs.Star.{meetsIn, neighbourSets, joinedIn, starOf};
+ghost use Rattle.intersection.specs.Steps.{sidesOf, boxAt, boxesOverlap, boxesMeet, partSets, Comparing, leafOf, centreIn};
 
 // The sides of all runs' boxes on one axis: the lower of each run's two values, and the higher.
 pub struct Sides {
@@ -103,7 +103,7 @@ fn compare_all(
     }
 }
 
-// The set of the runs that each of the first n runs meets. Each pair is compared once.
+// The set of the runs that each of the first n runs meets. Each pair is compared once: 496 comparisons for 32 runs.
 pub fn neighbours(
     x1: &[u32; 32],
     y1: &[u32; 32],
@@ -138,7 +138,7 @@ pub enum Star {
 // How many runs run i meets.
 pub fn meets_of(neighbours: &[u32; 32], i: usize) -> u32
     requires { ⌜ i < 32 ⌝ }
-    ensures { λ r. ⌜ r ≡ degree (joinedIn (now (neighbours .entry))) (below 32) i ⌝ }
+    ensures { λ r. ⌜ (r ≡ degree (joinedIn (now (neighbours .entry))) (below 32) i) × (r ≤ 32) ⌝ }
 {
     sets::size(neighbours[i])
 }

@@ -13,7 +13,7 @@ pub fn member(s: u32, i: usize) -> bool
     requires { ⌜ i < 32 ⌝ }
     ensures { λ r. ⌜ r ≡ has s i ⌝ }
 {
-    (s >> i) % 2 == 1
+    (s & (1 << i)) != 0
 }
 
 // s with i

@@ -1,5 +1,6 @@
 // Reads jobs as text, one a line: the number of runs, then for each run its first x, first y, second x and second y. Prints for each job the
-// numbers of columns and of rows, each run's meets figure, and the index of the centre, or `none`.
+// numbers of columns and of rows, each run's meets figure, and the index of the centre, or `none`. The stored figures are those of a plain
+// enumeration: meets by listing all grid edges in each box, the centre by trying every run.
 use intersection::Star;
 use libc::STDOUT_FILENO;
 ghost use Prim.Native.Nat.{_≤_, _<_};

@@ -1,10 +1,10 @@
 -- The invariant: the axis holds the distinct values of the runs passed.
 use mathlib.Core.Path.{_≡_, sym, ap, _∙_}
 use Prim.Native.Nat.{ℕ, _≤_, _-_}
-use native.Mathlib.Nat.{le-antisymm}
 use native.Mathlib.Omega.{arith}
 use lib.ListN.{getD}
 use Rattle.network.specs.Hanan.{insert, distinct, distinct-rises}
+use Rattle.grid.specs.declared.Axis.{Axis}
 use Rattle.grid.specs.Lines.{values, axisOf}
 use Rattle.grid.proofs.Insert.{length-insert}
 use Rattle.grid.proofs.Values.{distinct-none, distinct-more, few-lines, room-for, line-more, insert-rising}
@@ -70,7 +70,11 @@ loop-again c =
 returns : tie.Need-returns Inv-loop μ-loop
 returns c =
     let a = c .before .before .args in
-    c .before .loop .inv .1 ∙ ap (λ (k : ℕ). axisOf (distinct (values (a .first .now) (a .second .now) k))) (le-antisymm (c .before .loop .inv .0) (c .loop-test .left))
+    let l = c .before .loop in
+    let e : l .i ≡ a .n = omega arith in (
+      l .inv .1 ∙ ap (λ (k : ℕ). axisOf (distinct (values (a .first .now) (a .second .now) k))) e,
+      omega (arith, ap (λ (b : Axis). b .count) (l .inv .1), few-lines (a .first .now) (a .second .now) (l .i)),
+    )
 
 pub axis-of-spec : {M : Type 1} → statement M
 axis-of-spec =

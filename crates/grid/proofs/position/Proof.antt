@@ -2,7 +2,6 @@
 use mathlib.Core.Path.{_≡_, sym, ap, _∙_}
 use mathlib.Core.Logic.{⊎-elim}
 use Prim.Native.Nat.{ℕ, _≤_, _-_}
-use native.Mathlib.Nat.{le-antisymm}
 use native.Mathlib.Omega.{arith}
 use Rattle.grid.specs.Lines.{indexOf}
 use Rattle.grid.proofs.Places.{index-none, index-more, index-still, index-le}
@@ -48,7 +47,10 @@ loop-again c =
 returns : tie.Need-returns Inv-loop μ-loop
 returns c =
     let a = c .before .before .args in
-    c .before .loop .inv .1 ∙ ap (λ (n : ℕ). indexOf (a .lines .now) n (a .v)) (le-antisymm (c .before .loop .inv .0) (c .loop-test .left))
+    let l = c .before .loop in
+    let e : l .i ≡ a .count = omega arith in
+    let p = l .inv .1 ∙ ap (λ (n : ℕ). indexOf (a .lines .now) n (a .v)) e in
+    (p, omega (arith, index-le (a .lines .now) (a .count) (a .v)))
 
 pub position-spec : {M : Type 1} → statement M
 position-spec =

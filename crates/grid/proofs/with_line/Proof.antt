@@ -22,7 +22,9 @@ array-read-x : tie.Need-array-read-x Inv-loop μ-loop
 array-read-x c = omega arith
 
 returns : tie.Need-returns Inv-loop μ-loop
-returns c = carried-there (c .before .before .before .before .args .a) _ (c .before .before .before .before .pre) _ _ _ (c .before .before .loop .inv) (c .before .loop-test .taken) (c .if1 .taken)
+returns c =
+    let s = c .before .before .before .before in
+    carried-there (s .args .a) _ (s .pre) _ _ _ (c .before .before .loop .inv) (c .before .loop-test .taken) (c .if1 .taken)
 
 least-requires : tie.Need-least-requires Inv-loop μ-loop
 least-requires c κs = search needs
@@ -46,7 +48,8 @@ loop-again : tie.Need-loop-again Inv-loop μ-loop
 loop-again c =
     let s = c .before .before .before .before .before .before in
     let l = c .before .before .before .before in
-    carried-on (s .args .a) _ (s .pre) _ _ _ (l .loop .inv) _ _ (c .before .before .before .loop-test .taken) (c .before .before .if1 .left) (c .before .least .ensures) (c .most .ensures)
+    carried-on (s .args .a) _ (s .pre) _ _ _ (l .loop .inv) _ _ (c .before .before .before .loop-test .taken) (c .before .before .if1 .left)
+    (c .before .least .ensures) (c .most .ensures)
 
 mul-lines-2 : tie.Need-mul-lines-2 Inv-loop μ-loop
 mul-lines-2 c = omega arith

@@ -6,7 +6,8 @@ use native.Mathlib.Omega.{arith}
 use Rattle.network.specs.Lists.{every}
 use Rattle.network.specs.Graph.{below}
 use Rattle.intersection.specs.Sets.{members}
-use Rattle.intersection.specs.Star.{joinedIn, leafOf}
+use Rattle.intersection.specs.Star.{joinedIn}
+use Rattle.intersection.specs.Steps.{leafOf}
 use Rattle.intersection.proofs.Groups.{unless, every-member, every-on, every-off}
 use Rattle.intersection.proofs.are_leaves.Statement.{statement}
 use Rattle.intersection.proofs.are_leaves.Tie as tie
@@ -29,7 +30,8 @@ is-leaf-requires c κs = omega arith
 returns : tie.Need-returns Inv-loop μ-loop
 returns c =
     let a = c .before .before .before .before .before .args in
-    every-off (a .group) (leafOf (joinedIn (a .neighbours .now)) (members (a .group)) (a .c)) _ _ _ (c .before .before .member .ensures) (c .before .is-leaf .ensures) (c .if1 .taken) (omega arith)
+    every-off (a .group) (leafOf (joinedIn (a .neighbours .now)) (members (a .group)) (a .c)) _ _ _ (c .before .before .member .ensures)
+    (c .before .is-leaf .ensures) (c .if1 .taken) (omega arith)
 
 add-i : tie.Need-add-i Inv-loop μ-loop
 add-i c = omega arith

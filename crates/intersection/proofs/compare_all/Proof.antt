@@ -2,7 +2,7 @@
 use mathlib.Core.Path.{_≡_, ap, _∙_}
 use Prim.Native.Nat.{_≤_, _-_}
 use native.Mathlib.Omega.{arith}
-use Rattle.intersection.specs.Boxes.{boxesMeet, partSets}
+use Rattle.intersection.specs.Steps.{boxesMeet, partSets}
 use Rattle.intersection.proofs.Meetings.{part-start, part-end, boxes-self}
 use Rattle.intersection.proofs.compare_all.Statement.{statement}
 use Rattle.intersection.proofs.compare_all.Tie as tie

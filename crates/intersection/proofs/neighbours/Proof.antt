@@ -3,7 +3,8 @@ use mathlib.Core.Path.{_≡_, refl, ap, _∙_}
 use Prim.Native.Nat.{_≤_, _-_}
 use native.Mathlib.Omega.{arith}
 use borrow.Author.Needs.{needs}
-use Rattle.intersection.specs.Boxes.{boxesMeet, neighbourSets}
+use Rattle.intersection.specs.Star.{neighbourSets}
+use Rattle.intersection.specs.Steps.{boxesMeet}
 use Rattle.intersection.proofs.Meetings.{sets-meet}
 use Rattle.intersection.proofs.neighbours.Statement.{statement}
 use Rattle.intersection.proofs.neighbours.Tie as tie

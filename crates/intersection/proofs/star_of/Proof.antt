@@ -4,7 +4,8 @@ use Prim.Native.Nat.{_≤_, _-_}
 use native.Mathlib.Omega.{arith}
 use borrow.Author.Needs.{needs}
 use Rattle.intersection.specs.Sets.{pack}
-use Rattle.intersection.specs.Star.{joinedIn, centreIn}
+use Rattle.intersection.specs.Star.{joinedIn}
+use Rattle.intersection.specs.Steps.{centreIn}
 use Rattle.intersection.proofs.Digits.{pack-none}
 use Rattle.intersection.proofs.Groups.{star-none, star-some}
 use Rattle.intersection.proofs.star_of.Statement.{statement}

@@ -3,7 +3,8 @@ use mathlib.Core.Path.{sym, ap, ap₂, _∙_}
 use mathlib.Core.Bool.{_&&_}
 use native.Mathlib.Numerals.{add-one}
 use Rattle.intersection.specs.Sets.{pack}
-use Rattle.intersection.specs.Star.{joinedIn, centreIn}
+use Rattle.intersection.specs.Star.{joinedIn}
+use Rattle.intersection.specs.Steps.{centreIn}
 use Rattle.intersection.proofs.Members.{pack-add, pack-skip}
 use borrow.Author.Needs.{needs}
 use Rattle.intersection.proofs.with_centre.Statement.{statement}
@@ -23,7 +24,8 @@ returns c =
     let a = c .before .before .before .before .args in
     let f = centreIn (joinedIn (a .neighbours .now)) (a .group) in
     pack-add f (a .c) (a .found) (c .add .result) (c .before .before .before .before .pre .0) (c .add .ok)
-    (sym (ap₂ _&&_ (c .before .before .before .member .ensures) (c .before .before .is-centre .ensures)) ∙ c .before .if1 .taken) (c .before .before .before .before .pre .1) (c .add .ensures)
+    (sym (ap₂ _&&_ (c .before .before .before .member .ensures) (c .before .before .is-centre .ensures)) ∙ c .before .if1 .taken)
+    (c .before .before .before .before .pre .1) (c .add .ensures)
     ∙ ap (pack f) (sym (add-one (a .c)))
 
 returns-2 : tie.Need-returns-2

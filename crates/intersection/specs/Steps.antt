@@ -1,19 +1,20 @@
--- Boxes by their sides, and the sets of neighbours that their comparison gives. That two boxes overlap in more than a point exactly if some edge of
--- the job's grid lies in both is a law (proofs/Meetings.antt).
+-- What the functions between say: boxes by their sides, the sets while the runs are compared, and the two tests of a centre. That two boxes
+-- overlap in more than a point exactly if some edge of the job's grid lies in both is a law (`boxes-meet`).
 use mathlib.Core.Path.{_≡_}
 use mathlib.Core.List.{List}
-use mathlib.Core.Bool.{Bool, not, cond, _&&_}
+use mathlib.Core.Bool.{Bool, not, cond, _&&_, _||_}
 use Prim.Native.Nat.{ℕ, suc, _<_, min, max}
 use lib.Dec.{eqb, ltb}
 use lib.ListN.{getD}
-use Rattle.network.specs.Plane.{Run}
-use Rattle.network.specs.Hanan.{hanan}
-use Rattle.network.specs.Graph.{meets}
+use Rattle.network.specs.Lists.{every}
+use Rattle.network.specs.Graph.{isCentre}
 use Rattle.network.specs.Boxes.{wide}
 use Rattle.grid.specs.Tables.{table, padded}
 use Rattle.intersection.specs.declared.Sides.{Sides}
 use Rattle.intersection.specs.declared.Box.{Box}
-use Rattle.intersection.specs.Sets.{pack}
+use Rattle.intersection.specs.Sets.{has, members, pack}
+
+-- ---- boxes
 
 -- the lower and the higher side of each run's box on one axis, from the values of the first points and of the second
 abbrev pub sidesOf : List ℕ → List ℕ → Sides
@@ -35,13 +36,7 @@ boxesOverlap a b = wide (max (a .left) (b .left)) (min (a .right) (b .right)) (m
 unfoldable pub boxesMeet : List ℕ → List ℕ → List ℕ → List ℕ → ℕ → ℕ → Bool
 boxesMeet left right low high i j = not (eqb i j) && boxesOverlap (boxAt left right low high i) (boxAt left right low high j)
 
--- runs i and j of some runs meet: some edge of the runs' own Hanan grid lies in both boxes (01, Lines, boxes, meeting)
-abbrev pub meetsIn : List Run → ℕ → ℕ → Bool
-meetsIn runs = meets (hanan runs) runs
-
--- the neighbours of each of the first n runs among them, in an array of 32 sets
-abbrev pub neighbourSets : (ℕ → ℕ → Bool) → ℕ → List ℕ
-neighbourSets joined n = padded 32 (table (λ i. pack (joined i) n) n)
+-- ---- comparisons
 
 -- While run i is compared with the runs before it, and j of these are done: run k has been compared with so many runs, ..
 abbrev pub seen : ℕ → ℕ → ℕ → ℕ
@@ -51,8 +46,18 @@ seen i j k = cond (ltb k j) (suc i) (cond (ltb k i) i j)
 unfoldable pub partSets : (ℕ → ℕ → Bool) → ℕ → ℕ → List ℕ
 partSets joined i j = padded 32 (table (λ k. pack (joined k) (seen i j k)) (suc i))
 
--- run i is next compared with run j, which is one before it
+-- run i is next compared with run j, which is before it
 pub record Comparing (joined : ℕ → ℕ → Bool) (i j : ℕ) (sets : List ℕ) : Type 0 where
   pub later : j < i
   pub few : i < 32
   pub held : sets ≡ partSets joined i j
+
+-- ---- centres
+
+-- i is c, or joined to none of the group but c
+abbrev pub leafOf : (ℕ → ℕ → Bool) → List ℕ → ℕ → ℕ → Bool
+leafOf joined group c i = every (λ j. eqb i c || eqb j c || not (joined i j)) group
+
+-- c is one of the centres of a group that is given as a set
+abbrev pub centreIn : (ℕ → ℕ → Bool) → ℕ → ℕ → Bool
+centreIn joined group c = has group c && isCentre joined (members group) c
