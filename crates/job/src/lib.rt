@@ -117,7 +117,7 @@ fn wide(x: u8) -> u32
 }
 
 // The two bytes from i on, little-endian.
-fn le16(b: &[u8], i: usize) -> u32
+pub fn le16(b: &[u8], i: usize) -> u32
     requires { ⌜ i + 1 < length (now b) ⌝ }
     ensures { λ r. ⌜ r ≡ word2 (now (b .entry)) i ⌝ }
 {
@@ -125,7 +125,7 @@ fn le16(b: &[u8], i: usize) -> u32
 }
 
 // The four bytes from i on, little-endian.
-fn le32(b: &[u8], i: usize) -> u32
+pub fn le32(b: &[u8], i: usize) -> u32
     requires { ⌜ i + 3 < length (now b) ⌝ }
     ensures { λ r. ⌜ r ≡ word4 (now (b .entry)) i ⌝ }
 {

@@ -1,19 +1,11 @@
 // Prints what reading says of each job on standard input. A line there is a label, a space and the job's bytes in hexadecimal.
 // A refusal prints its number and place; an accepted job prints 0 0, its number, how many runs it has, and each run.
-ghost use Prim.Native.Nat.{_/_, _<_, _≤_};
-ghost use lib.ListN.{length};
-ghost use Rattle.io.specs.Counts.{Counts};
+ghost use Prim.Native.Nat.{_<_};
 use job::Answer;
 use job::Job;
 use job::Reading;
 use libc::STDIN_FILENO;
 use libc::STDOUT_FILENO;
-
-fn least(a: usize, b: usize) -> usize
-    ensures { λ r. ⌜ (r ≤ a) × (r ≤ b) ⌝ }
-{
-    if a < b { a } else { b }
-}
 
 fn print(text: &[u8]) {
     io::write_all(STDOUT_FILENO, text);
@@ -46,7 +38,7 @@ fn print_run(found: Job, k: usize)
 }
 
 fn print_runs(found: Job) {
-    let count = least(found.count, 32);
+    let count = hex::least(found.count, 32);
     let mut k: usize = 0;
     while k < count {
         print_run(found, k);
@@ -75,73 +67,19 @@ fn print_reading(reading: Reading) {
     print(b"\n");
 }
 
-fn digit(c: u8) -> u8
-    ensures { λ r. ⌜ r < 16 ⌝ }
-{
-    if c < 48 {
-        return 0;
-    }
-    if c < 58 {
-        return c - 48;
-    }
-    if c < 97 {
-        return 0;
-    }
-    if c < 103 {
-        return c - 87;
-    }
-    0
-}
-
-// The byte that pair k of the digits stands for.
-fn pair(digits: &[u8], k: usize) -> u8
-    requires { ⌜ k < length (now digits) / 2 ⌝ }
-{
-    16 * digit(digits[2 * k]) + digit(digits[2 * k + 1])
-}
-
-// Puts the bytes that the digits stand for at the start of out, and answers how many they are.
-fn unhex(digits: &[u8], out: &mut [u8]) -> usize
-    ensures { λ r. ⌜ Counts r (now (out .exit)) ⌝ }
-{
-    let n = least(digits.len() / 2, out.len());
-    let mut k: usize = 0;
-    while k < n {
-        out[k] = pair(digits, k);
-        k = k + 1;
-    }
-    n
-}
-
-// The first place from `from` on at which c stands, or the end.
-fn place_of(text: &[u8], c: u8, from: usize) -> usize
-    requires { ⌜ from ≤ length (now text) ⌝ }
-    ensures { λ r. ⌜ from ≤ r ⌝ }
-    ensures { λ r. ⌜ Counts r (now (text .entry)) ⌝ }
-{
-    let mut i = from;
-    while i < text.len() {
-        if text[i] == c {
-            return i;
-        }
-        i = i + 1;
-    }
-    i
-}
-
 fn read_line(line: &[u8]) {
-    let space = place_of(line, b' ', 0);
-    let digits = least(space + 1, line.len());
+    let space = hex::place_of(line, b' ', 0);
+    let digits = hex::least(space + 1, line.len());
     print(&line[..space]);
     let mut bytes = io::buffer();
-    let n = unhex(&line[digits..], &mut bytes);
+    let n = hex::unhex(&line[digits..], &mut bytes);
     print_reading(job::read(&bytes[..n]));
 }
 
 fn read_lines(text: &[u8]) {
     let mut from: usize = 0;
     while from < text.len() {
-        let end = place_of(text, b'\n', from);
+        let end = hex::place_of(text, b'\n', from);
         read_line(&text[from..end]);
         from = end + 1;
     }

@@ -59,7 +59,7 @@ endToEnd p [] = p
 endToEnd p (b ∷ k) = p ++ k
 
 -- what holds of the elements of two lists holds of both together
-all-append : {A : Type 0} (P : A → Type 0) (l k : List A) → All P l → All P k → All P (l ++ k)
+pub all-append : {A : Type 0} (P : A → Type 0) (l k : List A) → All P l → All P k → All P (l ++ k)
 all-append P [] k f h = h
 all-append P (a ∷ l) k f h = (f .0, all-append P l k (f .1) h)
 

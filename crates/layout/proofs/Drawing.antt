@@ -1,0 +1,148 @@
+-- The routes that are laid, on the grid: each is a Manhattan route of its run, and together they are best.
+use mathlib.Core.Path.{_≡_, refl, sym, ap, ap₂, _∙_}
+use mathlib.Core.Bool.{Bool, true, false}
+use mathlib.Core.List.{List, [], map}
+use Prim.Native.Nat.{ℕ, _-_, _≤_, _<_}
+use native.Mathlib.Omega.{arith}
+use borrow.Author.Tests.{leb-true, leb-false}
+use lib.Dec.{leb}
+use lib.ListN.{length, length-map, getD, take}
+use lib.Seq.{length-take-le}
+use Rattle.network.specs.Lists.{All}
+use Rattle.network.specs.Plane.{Point, Run, gap}
+use Rattle.network.specs.Grid.{Grid}
+use Rattle.network.specs.Route.{Manhattan}
+use Rattle.network.specs.Graph.{runAt, meets, below, isCentre}
+use Rattle.network.specs.Steps.{Dir, hor, ver, steps, Lane, extent, at, Fits, vertex, Frame, drawn}
+use Rattle.network.proofs.Numbers.{gap-rise, gap-fall}
+use Rattle.network.proofs.Lanes.{point-path}
+use Rattle.network.proofs.Drawn.{from-steps}
+use Rattle.sharing.specs.Trace.{Move}
+use Rattle.sharing.specs.Table.{Table, Exact, figure}
+use Rattle.sharing.specs.Walk.{Traced}
+use Rattle.sharing.specs.Star.{starOf, Best}
+use Rattle.sharing.specs.View.{lines}
+use Rattle.sharing.proofs.Theorem.{star-best}
+use Rattle.sharing.proofs.Runs.{Indexed}
+use Rattle.route.specs.declared.Route.{Route}
+use Rattle.route.specs.Route.{stepsOf, lane, columnsOf, rowsOf, drawnOf, OnGrid, numbered, length-below}
+use Rattle.table.specs.declared.side.Side.{Side}
+use Rattle.table.specs.Side.{firstOf, secondOf}
+use Rattle.table.proofs.Star.{firsts, seconds, Surveyed, viewOf, boxOf}
+use Rattle.table.proofs.Survey.{surveyed-centred}
+use Rattle.layout.specs.Laid.{unlaid, Layable, AllLayable, Laid, AllLaid}
+use Rattle.layout.proofs.Lists.{all-taken, mapped-at}
+use Rattle.layout.proofs.Laying.{leads-apart}
+use Rattle.layout.proofs.Fitting.{steps-lifted, steps-are, traced-layable}
+
+-- ---- the lane from one line to another
+
+abbrev laneTo : ℕ → ℕ → Lane
+laneTo p q = lane (leb p q) p (gap p q)
+
+-- it has only lines of the list
+lane-fits : (l : List ℕ) (p q : ℕ) → p < length l → q < length l → Fits l (laneTo p q)
+lane-fits l p q h k = go (leb p q) refl
+  where
+    go : (b : Bool) → leb p q ≡ b → Fits l (lane b p (gap p q))
+    go true e = omega (arith, gap-rise p q (leb-true p q e))
+    go false e = let o = leb-false p q e in omega (arith, gap-fall p q (omega arith))
+
+-- it is as long as they are apart
+lane-extent : (b : Bool) (p n : ℕ) → extent (lane b p n) ≡ n
+lane-extent true p n = refl
+lane-extent false p n = refl
+
+-- it begins at the one line
+lane-from : (b : Bool) (p n : ℕ) → at (lane b p n) 0 ≡ p
+lane-from true p n = omega arith
+lane-from false p n = omega arith
+
+-- and ends at the other
+lane-upto : (p q : ℕ) → at (laneTo p q) (extent (laneTo p q)) ≡ q
+lane-upto p q = go (leb p q) refl
+  where
+    go : (b : Bool) → leb p q ≡ b → at (lane b p (gap p q)) (extent (lane b p (gap p q))) ≡ q
+    go true e = gap-rise p q (leb-true p q e)
+    go false e = let o = leb-false p q e in omega (arith, gap-fall p q (omega arith))
+
+-- ---- one route
+
+module _ (xs ys : Side) (c : ℕ) (moves : List Move) (k : ℕ) (r : Route) (S : Layable xs ys c moves k) (l : Laid xs ys c moves k r) where
+  -- it passes the lines between its run's points
+  columns-are : columnsOf r ≡ laneTo (firstOf xs k) (secondOf xs k)
+  columns-are = λ i. lane (l .rightward i) (l .column i) ((ap (steps hor) (l .goes) ∙ leads-apart xs ys c moves k S hor) i)
+
+  rows-are : rowsOf r ≡ laneTo (firstOf ys k) (secondOf ys k)
+  rows-are = λ i. lane (l .upward i) (l .row i) ((ap (steps ver) (l .goes) ∙ leads-apart xs ys c moves k S ver) i)
+
+  -- so it is on any grid that has them
+  pub laid-on-grid : (g : Grid) → (firstOf xs k < length (g .columns)) × (secondOf xs k < length (g .columns))
+      → (firstOf ys k < length (g .rows)) × (secondOf ys k < length (g .rows)) → OnGrid g r
+  laid-on-grid g x y =
+      record {
+        held = omega (arith, l .held);
+        columns-fit = rw columns-are (lane-fits (g .columns) (firstOf xs k) (secondOf xs k) (x .0) (x .1));
+        rows-fit = rw rows-are (lane-fits (g .rows) (firstOf ys k) (secondOf ys k) (y .0) (y .1));
+      }
+
+  -- and on the grid of indexes
+  pub laid-numbered : OnGrid numbered r
+  unfolding numbered
+  laid-numbered = laid-on-grid numbered (rw length-below (S .in-columns)) (rw length-below (S .in-rows))
+
+-- ---- all routes
+
+-- the routes that are laid are on the grid of indexes
+pub all-numbered : (xs ys : Side) (n c : ℕ) (moves : List Move) (routes : List Route) → n ≤ length routes → AllLayable xs ys n c moves → AllLaid xs ys n c moves routes
+    → All (OnGrid numbered) (take n routes)
+all-numbered xs ys n c moves routes h fit all =
+    all-taken (OnGrid numbered) n routes unlaid h (λ k i. laid-numbered xs ys c moves k (getD routes k unlaid) (fit .layable k i) (all .laid k i))
+
+-- ---- on the grid of the runs
+
+-- the point where the lines with two indexes cross
+vertex-at : (g : Grid) (p : Point) (i : Dir → ℕ) → Indexed g p i → vertex g (i hor) (i ver) ≡ p
+vertex-at g p i x = point-path (x .at-line hor) (x .at-line ver)
+
+module _ (g : Grid) (runs : List Run) (xs ys : Side) (c leaves : ℕ) (S : Surveyed g runs xs ys c leaves) (moves : List Move) where
+  -- a route that is laid has a frame of its run
+  pub laid-frame : (k : ℕ) → k < length runs → (r : Route) → Layable xs ys c moves k → Laid xs ys c moves k r → Frame g (runAt runs k) (columnsOf r) (rowsOf r)
+  laid-frame k h r a l =
+      let p = S .first-at k h in
+      let q = S .second-at k h in
+      let on = laid-on-grid xs ys c moves k r a l g (p .fits hor, q .fits hor) (p .fits ver, q .fits ver) in
+      let X = columns-are xs ys c moves k r a l in
+      let Y = rows-are xs ys c moves k r a l in
+      record {
+        columns-fit = on .columns-fit;
+        rows-fit = on .rows-fit;
+        from = ap₂ (vertex g) (lane-from (r .right) (r .start .column) _ ∙ l .column) (lane-from (r .up) (r .start .row) _ ∙ l .row) ∙ vertex-at g _ (firsts xs ys k) p;
+        upto = ap₂ (vertex g) (ap (λ z. at z (extent z)) X ∙ lane-upto (firstOf xs k) (secondOf xs k)) (ap (λ z. at z (extent z)) Y ∙ lane-upto (firstOf ys k) (secondOf ys k))
+            ∙ vertex-at g _ (seconds xs ys k) q;
+      }
+
+  -- and is a Manhattan route of it
+  pub laid-manhattan : (k : ℕ) → k < length runs → (r : Route) → Layable xs ys c moves k → Laid xs ys c moves k r → Manhattan g (runAt runs k) (drawnOf g r)
+  laid-manhattan k h r a l =
+      from-steps g (runAt runs k) (columnsOf r) (rowsOf r) (laid-frame k h r a l) (stepsOf r)
+      (record { all-columns = sym (lane-extent (r .right) (r .start .column) _); all-rows = sym (lane-extent (r .up) (r .start .row) _) })
+
+  module _ (few : (d : Dir) → length (lines g d) ≤ 64) (h : c < length runs) (star : isCentre (meets g runs) (below (length runs)) c ≡ true) (T : Table)
+      (exact : Exact (starOf (viewOf g xs ys c) runs (boxOf g xs ys c) c) T) (traced : Traced (starOf (viewOf g xs ys c) runs (boxOf g xs ys c) c) T moves)
+      (routes : List Route) (full : length runs ≤ length routes) (laid : AllLaid xs ys (length runs) c moves routes) where
+    -- THEOREM: the routes that are laid by the moves traced in a star's table save what the table says, and no routes save more
+    pub laid-best : Best g runs (map (drawnOf g) (take (length runs) routes)) (figure (starOf (viewOf g xs ys c) runs (boxOf g xs ys c) c) T)
+    laid-best =
+        let v = viewOf g xs ys c in
+        let box = boxOf g xs ys c in
+        let C = surveyed-centred g runs xs ys c leaves S h star in
+        let all = traced-layable g runs xs ys c leaves S few C star T moves traced in
+        let route : ℕ → Route = λ k. getD routes k unlaid in
+        star-best v runs box c C T moves traced (λ k. columnsOf (route k)) (λ k. rowsOf (route k))
+        (λ k i. laid-frame k i (route k) (all .layable k i) (laid .laid k i))
+        (map (drawnOf g) (take (length runs) routes)) star exact
+        (length-map (take (length runs) routes) (drawnOf g) ∙ length-take-le (length runs) routes full)
+        (λ k i. mapped-at (drawnOf g) (length runs) routes k unlaid [] i full
+        ∙ ap (drawn g (columnsOf (route k)) (rowsOf (route k)))
+        (laid .laid k i .goes ∙ steps-lifted g runs xs ys c leaves S few moves h k i ∙ steps-are g runs xs ys c leaves S few C star T moves traced k i))

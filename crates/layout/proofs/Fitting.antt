@@ -1,0 +1,114 @@
+-- All runs of a star can be laid by the centre's moves that are traced in its table: the boxes that the code works with have the steps of the boxes on the
+-- grid, each leaf's steps lead from its first point to its second, and the moves that are shared with it are consecutive.
+use mathlib.Core.Path.{_≡_, sym, ap, ap₂, _∙_}
+use mathlib.Core.Bool.{Bool, true, false, cond}
+use mathlib.Core.List.{List, reverse, reverse-reverse}
+use Prim.Native.Nat.{ℕ, _+_, _-_, _≤_, _<_}
+use native.Mathlib.Omega.{arith}
+use native.Mathlib.Decide.{ℕ-discrete}
+use borrow.Author.Tests.{eq-eqb, ne-eqb}
+use lib.Dec.{eqb}
+use lib.ListN.{length}
+use Rattle.network.specs.Plane.{Run, gap}
+use Rattle.network.specs.Grid.{Grid}
+use Rattle.network.specs.Graph.{meets, below, isCentre}
+use Rattle.network.specs.Steps.{Dir, hor, ver, steps}
+use Rattle.network.proofs.Numbers.{gap-rise}
+use Rattle.network.proofs.Centres.{centre-true}
+use Rattle.network.proofs.Leaves.{member-below}
+use Rattle.sharing.specs.Table.{Table}
+use Rattle.sharing.specs.Trace.{Move}
+use Rattle.sharing.specs.Walk.{dirs, moved, Traced}
+use Rattle.sharing.specs.Leaf.{before, stretch, via, leafSteps}
+use Rattle.sharing.specs.View.{lines, index}
+use Rattle.sharing.specs.Star.{starOf, Centred, stepsOf}
+use Rattle.sharing.proofs.Leaf.{leaf-leads}
+use Rattle.sharing.proofs.Centre.{leaf-is, separate}
+use Rattle.table.specs.declared.side.Side.{Side}
+use Rattle.table.proofs.Star.{firsts, seconds, Surveyed, viewOf, boxOf}
+use Rattle.layout.specs.Sides.{goesBack, box64}
+use Rattle.layout.specs.Laid.{stepsBy, AllLayable}
+use Rattle.layout.proofs.Consecutive.{kept-together}
+use Rattle.layout.proofs.Lifting.{gap-lifted, lifted, via-lifted}
+
+-- the number of a line among 64, by its number among n
+number-lifted : (f : Bool) (n i : ℕ) → i < n → n ≤ 64 → index f 64 i ≡ cond f (64 - n) 0 + index f n i
+number-lifted true n i h k = omega arith
+number-lifted false n i h k = omega arith
+
+-- ---- the boxes
+
+module _ (g : Grid) (runs : List Run) (xs ys : Side) (c leaves : ℕ) (S : Surveyed g runs xs ys c leaves) (few : (d : Dir) → length (lines g d) ≤ 64) where
+  -- how much higher the lines are counted that the code works with
+  lift : Dir → ℕ
+  lift d = cond (viewOf g xs ys c .flip d) (64 - length (lines g d)) 0
+
+  -- the first point's lines
+  first-lifted : (k : ℕ) → k < length runs → (d : Dir) → box64 xs ys c k .first d ≡ lift d + boxOf g xs ys c k .first d
+  unfolding lift goesBack
+  first-lifted k h d = number-lifted (viewOf g xs ys c .flip d) (length (lines g d)) (firsts xs ys k d) (S .first-at k h .fits d) (few d)
+
+  -- and the second's
+  second-lifted : (k : ℕ) → k < length runs → (d : Dir) → box64 xs ys c k .second d ≡ lift d + boxOf g xs ys c k .second d
+  unfolding lift goesBack
+  second-lifted k h d = number-lifted (viewOf g xs ys c .flip d) (length (lines g d)) (seconds xs ys k d) (S .second-at k h .fits d) (few d)
+
+  -- its boxes have the steps of the view's
+  pub steps-lifted : (moves : List Move) → c < length runs → (k : ℕ) → k < length runs → stepsBy (box64 xs ys c) c moves k ≡ stepsBy (boxOf g xs ys c) c moves k
+  steps-lifted moves h k i =
+      let near : (d : Dir) → box64 xs ys c c .first d + moved d (before k moves) ≡ lift d + (boxOf g xs ys c c .first d + moved d (before k moves))
+      = λ d. omega (arith, first-lifted c h d) in
+      let box : box64 xs ys c k ≡ lifted lift (boxOf g xs ys c k) = λ j. record { first = λ d. first-lifted k i d j; second = λ d. second-lifted k i d j } in
+      ap (cond (eqb k c) (dirs moves))
+      ((λ j. via (box j) (λ d. near d j) (dirs (stretch k moves)))
+      ∙ via-lifted lift (boxOf g xs ys c k) (λ d. boxOf g xs ys c c .first d + moved d (before k moves)) (dirs (stretch k moves)))
+
+  -- ---- the moves
+
+  module _ (C : Centred (viewOf g xs ys c) runs (boxOf g xs ys c) c) (star : isCentre (meets g runs) (below (length runs)) c ≡ true) (T : Table) (moves : List Move)
+      (traced : Traced (starOf (viewOf g xs ys c) runs (boxOf g xs ys c) c) T moves) where
+    -- every other run is a leaf
+    others : (k : ℕ) → k < length runs → ¬ (k ≡ c) → meets g runs c k ≡ true
+    others k h n = centre-true (meets g runs) (below (length runs)) c (member-below (length runs) c (C .listed)) star .joins k (member-below (length runs) k h) n
+
+    -- the steps by the boxes are those of the star
+    pub steps-are : (k : ℕ) → k < length runs
+        → stepsBy (boxOf g xs ys c) c moves k ≡ stepsOf (starOf (viewOf g xs ys c) runs (boxOf g xs ys c) c) c moves k
+    steps-are k h = go (ℕ-discrete k c)
+      where
+        go : Dec (k ≡ c) → stepsBy (boxOf g xs ys c) c moves k ≡ stepsOf (starOf (viewOf g xs ys c) runs (boxOf g xs ys c) c) c moves k
+        go (yes e) = rw (eq-eqb k c e)
+        go (no n) =
+            ap (λ b. cond (eqb k c) (dirs moves) (via b (λ d. boxOf g xs ys c c .first d + moved d (before k moves)) (dirs (stretch k moves))))
+            (sym (leaf-is (viewOf g xs ys c) runs (boxOf g xs ys c) c C k (others k h n)))
+
+    leads : (k : ℕ) → k < length runs → (d : Dir)
+        → steps d (stepsBy (boxOf g xs ys c) c moves k) ≡ gap (boxOf g xs ys c k .first d) (boxOf g xs ys c k .second d)
+    leads k h d = go (ℕ-discrete k c)
+      where
+        go : Dec (k ≡ c) → steps d (stepsBy (boxOf g xs ys c) c moves k) ≡ gap (boxOf g xs ys c k .first d) (boxOf g xs ys c k .second d)
+        go (yes e) =
+            rw (eq-eqb k c e, e) (omega (arith, traced .leads d, gap-rise (boxOf g xs ys c c .first d) (boxOf g xs ys c c .second d) (C .rises d)))
+        go (no n) =
+            let v = viewOf g xs ys c in
+            let box = boxOf g xs ys c in
+            let I = starOf v runs box c in
+            ap (steps d) (steps-are k h ∙ ap (λ t. cond t (dirs moves) (leafSteps I k moves)) (ne-eqb k c n))
+            ∙ (rw reverse-reverse at (leaf-leads I (separate v runs box c C) k (reverse moves) (traced .kept) d))
+            ∙ ap (λ b. gap (b .first d) (b .second d)) (leaf-is v runs box c C k (others k h n))
+
+    -- the moves fit
+    pub traced-layable : AllLayable xs ys (length runs) c moves
+    traced-layable =
+        record {
+          few = S .few;
+          centre = C .listed;
+          layable = λ k h. record {
+            listed = omega (arith, S .few);
+            in-columns = (omega (arith, S .first-at k h .fits hor, few hor), omega (arith, S .second-at k h .fits hor, few hor));
+            in-rows = (omega (arith, S .first-at k h .fits ver, few ver), omega (arith, S .second-at k h .fits ver, few ver));
+            leads = λ d. ap (steps d) (steps-lifted moves (C .listed) k h) ∙ leads k h d
+                ∙ sym (ap₂ gap (first-lifted k h d) (second-lifted k h d) ∙ gap-lifted (lift d) (boxOf g xs ys c k .first d) (boxOf g xs ys c k .second d));
+            together = λ n. kept-together (starOf (viewOf g xs ys c) runs (boxOf g xs ys c) c) (separate (viewOf g xs ys c) runs (boxOf g xs ys c) c C) k moves (traced .kept);
+          };
+        }

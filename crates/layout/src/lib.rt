@@ -1,0 +1,304 @@
+// From the centre's moves to the route of every run, as steps on the grid's lines. A run is known by its index, and its points by the indexes of their
+// lines on the two axes (`xs` and `ys`). The centre's moves are the trace of the table: steps (0 along the row, any other along the column), and for each
+// the leaf that it is shared with (32 or above: none).
+use route::Route;
+use route::Vertex;
+use table::side::Side;
+use table::side::wide;
+use table::trace::Trace;
+ghost use mathlib.Core.Path.{_≡_};
+ghost use mathlib.Core.List.{map, reverse};
+ghost use Prim.Native.Nat.{ℕ, _+_, _-_, _≤_, _<_};
+ghost use lib.ListN.{getD, replicate};
+ghost use lib.Seq.{slice};
+ghost use Rattle.network.specs.Plane.{gap};
+ghost use Rattle.sharing.specs.View.{index};
+ghost use Rattle.sharing.specs.Leaf.{turnIf};
+ghost use Rattle.route.specs.Route.{dirOf};
+ghost use Rattle.table.specs.Side.{firstOf, secondOf};
+ghost use Rattle.table.specs.Walk.{movesOf};
+ghost use Rattle.layout.specs.Sides.{OnLines, numberOf};
+ghost use Rattle.layout.specs.Stretch.{alongRow, nothing, grown, Found};
+ghost use Rattle.layout.specs.Way.{wayOf, passesForth, legOf};
+ghost use Rattle.layout.specs.Laid.{Longer, begun, Layable, Stretched, AllLayable, Laid, AllLaid};
+
+// The moves that are shared with a leaf: `size` moves from index `from` on. Of the moves before them `across` go along the row, and of themselves
+// `wide`.
+pub struct Stretch {
+    pub from: usize,
+    pub size: usize,
+    pub across: usize,
+    pub wide: usize,
+}
+
+// A leaf's way along one axis: how many steps lead to its stretch, how many lead on from it, and if it goes as the centre does.
+pub struct Way {
+    pub before: usize,
+    pub after: usize,
+    pub forward: bool,
+}
+
+// How far apart two lines are.
+fn gap(a: usize, b: usize) -> usize
+    ensures { λ r. ⌜ r ≡ gap a b ⌝ }
+{
+    if a < b { b - a } else { a - b }
+}
+
+// ---- a route that grows
+
+// The route with n steps more, all in one direction.
+fn push(r: Route, step: u8, n: usize) -> Route
+    requires { ⌜ r .count + n ≤ 128 ⌝ }
+    ensures { λ s. ⌜ Longer r n (replicate n (dirOf step)) s ⌝ }
+{
+    let mut s = r;
+    let mut i: usize = 0;
+    while i < n {
+        let at = s.count;
+        s.steps[at] = step;
+        s.count = at + 1;
+        i += 1;
+    }
+    s
+}
+
+// The route with the steps from index `from` up to `upto` more.
+fn forth(r: Route, steps: [u8; 128], from: usize, upto: usize) -> Route
+    requires { ⌜ (from ≤ upto) × (upto ≤ 128) × (r .count + (upto - from) ≤ 128) ⌝ }
+    ensures { λ s. ⌜ Longer r (upto - from) (map dirOf (slice from upto steps)) s ⌝ }
+{
+    let mut s = r;
+    let mut i = from;
+    while i < upto {
+        let at = s.count;
+        s.steps[at] = steps[i];
+        s.count = at + 1;
+        i += 1;
+    }
+    s
+}
+
+// The same steps, the last one first.
+fn back(r: Route, steps: [u8; 128], from: usize, upto: usize) -> Route
+    requires { ⌜ (from ≤ upto) × (upto ≤ 128) × (r .count + (upto - from) ≤ 128) ⌝ }
+    ensures { λ s. ⌜ Longer r (upto - from) (reverse (map dirOf (slice from upto steps))) s ⌝ }
+{
+    let mut s = r;
+    let mut i = upto;
+    while from < i {
+        i -= 1;
+        let at = s.count;
+        s.steps[at] = steps[i];
+        s.count = at + 1;
+    }
+    s
+}
+
+// The route with steps along the row and then along the column more.
+fn leg(r: Route, across: usize, up: usize) -> Route
+    requires { ⌜ r .count + across + up ≤ 128 ⌝ }
+    ensures { λ s. ⌜ Longer r (across + up) (legOf across up) s ⌝ }
+{
+    let s = push(r, 0, across);
+    push(s, 1, up)
+}
+
+// Which way a run that goes `right` along the row and `up` along the column passes a stretch that begins with the step.
+fn passes_forth(step: u8, right: bool, up: bool) -> bool
+    ensures { λ r. ⌜ r ≡ passesForth step right up ⌝ }
+{
+    if step == 0 { right } else { up }
+}
+
+// The route with the stretch from index `from` up to `upto` more.
+fn along(r: Route, steps: [u8; 128], from: usize, upto: usize, right: bool, up: bool) -> Route
+    requires { ⌜ (from < upto) × (upto ≤ 128) × (r .count + (upto - from) ≤ 128) ⌝ }
+    ensures { λ s. ⌜ Longer r (upto - from) (turnIf (passesForth (getD steps from 0) right up) (map dirOf (slice from upto steps))) s ⌝ }
+{
+    if passes_forth(steps[from], right, up) {
+        return forth(r, steps, from, upto);
+    }
+    back(r, steps, from, upto)
+}
+
+// ---- where the moves shared with each leaf stand
+
+// How many columns a step passes.
+fn along_row(step: u8) -> usize
+    ensures { λ r. ⌜ (r ≡ alongRow step) × (r ≤ 1) ⌝ }
+{
+    if step == 0 { 1 } else { 0 }
+}
+
+// The stretch with the move i more, before which `across` moves go along the row.
+fn with_move(s: Stretch, i: usize, across: usize, step: u8) -> Stretch
+    requires { ⌜ (s .size < 256) × (s .wide < 256) ⌝ }
+    ensures { λ r. ⌜ r ≡ grown s i across step ⌝ }
+{
+    let wide = s.wide + along_row(step);
+    let size = s.size + 1;
+    if s.size == 0 {
+        return Stretch {
+            from: i,
+            size,
+            across,
+            wide,
+        };
+    }
+    Stretch {
+        from: s.from,
+        size,
+        across: s.across,
+        wide,
+    }
+}
+
+// For each leaf, where the moves that are shared with it stand.
+fn stretches(moves: Trace) -> [Stretch; 32]
+    requires { ⌜ moves .count ≤ 128 ⌝ }
+    ensures { λ r. ⌜ ((k : ℕ) → k < 32 → Found k (movesOf moves) (getD r k nothing)) ⌝ }
+{
+    let mut t = [Stretch {
+        from: 0,
+        size: 0,
+        across: 0,
+        wide: 0,
+    }; 32];
+    let mut across: usize = 0;
+    let mut i: usize = 0;
+    while i < moves.count {
+        let step = moves.steps[i];
+        let k = wide(moves.shares[i]);
+        if k < 32 {
+            let s = t[k];
+            t[k] = with_move(s, i, across, step);
+        }
+        across += along_row(step);
+        i += 1;
+    }
+    t
+}
+
+// ---- the ways of a run
+
+// The number of a line in the centre's view: lines are counted as the centre goes.
+fn number(flip: bool, i: u8) -> usize
+    requires { ⌜ i < 64 ⌝ }
+    ensures { λ r. ⌜ (r ≡ index flip 64 i) × (r < 64) ⌝ }
+{
+    let i = wide(i);
+    if flip { 63 - i } else { i }
+}
+
+// From line p to line q by way of a stretch that begins at line `near` and goes n lines along the axis.
+fn way_by(p: usize, q: usize, near: usize, n: usize) -> Way
+    requires { ⌜ (near < 512) × (n < 512) ⌝ }
+    ensures { λ w. ⌜ w ≡ wayOf p q near n ⌝ }
+{
+    let far = near + n;
+    if p <= q {
+        return Way {
+            before: gap(p, near),
+            after: gap(far, q),
+            forward: true,
+        };
+    }
+    Way {
+        before: gap(p, far),
+        after: gap(near, q),
+        forward: false,
+    }
+}
+
+// The way of leaf k along one axis, by a stretch of n lines before which the centre passes so many.
+fn way_of(s: Side, centre: usize, k: usize, passed: usize, n: usize) -> Way
+    requires { ⌜ (centre < 32) × (k < 32) × OnLines s centre × OnLines s k × (passed ≤ 128) × (n ≤ 128) ⌝ }
+    ensures { λ w. ⌜ w ≡ wayOf (numberOf s centre (firstOf s k)) (numberOf s centre (secondOf s k)) (numberOf s centre (firstOf s centre) + passed) n ⌝ }
+{
+    let flip = s.second[centre] < s.first[centre];
+    let near = number(flip, s.first[centre]) + passed;
+    let p = number(flip, s.first[k]);
+    let q = number(flip, s.second[k]);
+    way_by(p, q, near, n)
+}
+
+// ---- the routes
+
+// The route of run k with the first n of some steps.
+fn begin(steps: [u8; 128], n: usize, xs: Side, ys: Side, k: usize) -> Route
+    requires { ⌜ k < 32 ⌝ }
+    ensures { λ r. ⌜ r ≡ begun steps n xs ys k ⌝ }
+{
+    Route {
+        steps,
+        count: n,
+        start: Vertex {
+            column: wide(xs.first[k]),
+            row: wide(ys.first[k]),
+        },
+        right: xs.first[k] <= xs.second[k],
+        up: ys.first[k] <= ys.second[k],
+    }
+}
+
+// The route of a leaf by way of the stretch that it shares with the centre.
+fn leaf_route(xs: Side, ys: Side, centre: usize, moves: Trace, s: Stretch, k: usize) -> Route
+    requires { ⌜ Stretched xs ys centre (movesOf moves) k s ⌝ }
+    ensures { λ r. ⌜ Laid xs ys centre (movesOf moves) k r ⌝ }
+{
+    let x = way_of(xs, centre, k, s.across, s.wide);
+    let y = way_of(ys, centre, k, s.from - s.across, s.size - s.wide);
+    let from = s.from;
+    let steps = moves.steps;
+    let r = begin([0u8; 128], 0, xs, ys, k);
+    let r = leg(r, x.before, y.before);
+    let r = along(r, steps, from, from + s.size, x.forward, y.forward);
+    leg(r, x.after, y.after)
+}
+
+// How many lines run k passes along an axis.
+fn extent(s: Side, k: usize) -> usize
+    requires { ⌜ (k < 32) × OnLines s k ⌝ }
+    ensures { λ r. ⌜ (r ≡ gap (firstOf s k) (secondOf s k)) × (r ≤ 63) ⌝ }
+{
+    gap(wide(s.first[k]), wide(s.second[k]))
+}
+
+// The route of run k. A leaf that shares nothing goes along the row, then the column.
+fn route_of(xs: Side, ys: Side, centre: usize, moves: Trace, s: Stretch, k: usize) -> Route
+    requires { ⌜ Layable xs ys centre (movesOf moves) centre × Layable xs ys centre (movesOf moves) k × Found k (movesOf moves) s ⌝ }
+    ensures { λ r. ⌜ Laid xs ys centre (movesOf moves) k r ⌝ }
+{
+    if k == centre {
+        let steps = moves.steps;
+        return begin(steps, moves.count, xs, ys, k);
+    }
+    if s.size == 0 {
+        let r = begin([0u8; 128], 0, xs, ys, k);
+        return leg(r, extent(xs, k), extent(ys, k));
+    }
+    leaf_route(xs, ys, centre, moves, s, k)
+}
+
+// The routes of the first n runs.
+pub fn routes(xs: Side, ys: Side, n: usize, centre: usize, moves: Trace) -> [Route; 32]
+    requires { ⌜ AllLayable xs ys n centre (movesOf moves) ⌝ }
+    ensures { λ r. ⌜ AllLaid xs ys n centre (movesOf moves) r ⌝ }
+{
+    let found = stretches(moves);
+    let mut t = [Route {
+        steps: [0u8; 128],
+        count: 0,
+        start: Vertex { column: 0, row: 0 },
+        right: true,
+        up: true,
+    }; 32];
+    let mut k: usize = 0;
+    while k < n {
+        let s = found[k];
+        t[k] = route_of(xs, ys, centre, moves, s, k);
+        k += 1;
+    }
+    t
+}

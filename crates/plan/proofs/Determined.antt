@@ -1,0 +1,147 @@
+-- The bytes of a plan determine it: two plans with the same bytes have the same corners and the same figures. A record's kind byte tells whether
+-- another corner, another route or the end comes next, so that the records of equal bytes are read off from the front one by one.
+use mathlib.Core.Path.{_≡_, refl, sym, ap, _∙_}
+use mathlib.Core.List.{List, [], _∷_, _++_, map, flatMap, append-assoc}
+use Prim.Native.Nat.{ℕ, _^_, _≤_, _<_}
+use native.Mathlib.Omega.{arith}
+use lib.ListN.{getD, drop}
+use Rattle.network.specs.Lists.{All}
+use Rattle.network.specs.Plane.{Point}
+use Rattle.network.specs.Route.{Route}
+use Rattle.network.proofs.Lanes.{point-path}
+use Rattle.job.specs.Fields.{word2, word4, biasedOf, wordOf}
+use Rattle.job.specs.Written.{bytes2, bytes4}
+use Rattle.job.proofs.Fields.{word2-bytes, word4-bytes}
+use Rattle.job.proofs.Signed.{biased-of-word}
+use Rattle.plan.specs.declared.Head.{Head}
+use Rattle.plan.specs.Records.{cornerRecord, endRecord}
+use Rattle.plan.specs.Plan.{Entry, entryBytes, totalCorners, bookBytes}
+
+-- ---- fields
+
+-- equal bytes are those of equal numbers, whatever follows
+same2 : (u v : ℕ) (r s : List ℕ) → u < 65536 → v < 65536 → bytes2 u ++ r ≡ bytes2 v ++ s → u ≡ v
+same2 u v r s h k e = sym (word2-bytes u h r) ∙ ap (λ l. word2 l 0) e ∙ word2-bytes v k s
+
+same4 : (u v : ℕ) (r s : List ℕ) → u < 2 ^ 32 → v < 2 ^ 32 → bytes4 u ++ r ≡ bytes4 v ++ s → u ≡ v
+same4 u v r s h k e = sym (word4-bytes u h r) ∙ ap (λ l. word4 l 0) e ∙ word4-bytes v k s
+
+-- equal words are those of equal coordinates
+same-coordinate : (c d : ℕ) (r s : List ℕ) → c ≤ 2000000 → d ≤ 2000000 → bytes4 (wordOf c) ++ r ≡ bytes4 (wordOf d) ++ s → c ≡ d
+same-coordinate c d r s h k e =
+    sym (biased-of-word c h) ∙ ap biasedOf (same4 (wordOf c) (wordOf d) r s (omega arith) (omega arith) e) ∙ biased-of-word d k
+
+-- ---- corners
+
+-- a coordinate lies in its range
+pub record InRange (p : Point) : Type 0 where
+  pub x-in : p .x ≤ 2000000
+  pub y-in : p .y ≤ 2000000
+
+-- equal bytes that begin with a corner record: the corner is the same, and so is what follows
+same-corner : (p q : Point) (r s : List ℕ) → InRange p → InRange q → cornerRecord p ++ r ≡ cornerRecord q ++ s → (p ≡ q) × (r ≡ s)
+same-corner p q r s h k e = (
+  point-path
+      (same-coordinate (p .x) (q .x) (bytes4 (wordOf (p .y)) ++ r) (bytes4 (wordOf (q .y)) ++ s) (h .x-in) (k .x-in) (ap (drop 1) e))
+      (same-coordinate (p .y) (q .y) r s (h .y-in) (k .y-in) (ap (drop 5) e)),
+  ap (drop 9) e,
+)
+
+-- bytes that begin with no corner record
+abbrev NoCorner : List ℕ → Type 0
+NoCorner r = getD r 0 0 ≡ 0x43 → ⊥
+
+-- the corners up to the first other record are the same
+same-corners : (l k : List Point) (r s : List ℕ) → All InRange l → All InRange k → NoCorner r → NoCorner s
+    → flatMap cornerRecord l ++ r ≡ flatMap cornerRecord k ++ s → (l ≡ k) × (r ≡ s)
+unfolding flatMap
+same-corners [] [] r s a b m n e = (refl, e)
+same-corners [] (q ∷ k) r s a b m n e = absurd (m (ap (λ l. getD l 0 0) e))
+same-corners (p ∷ l) [] r s a b m n e = absurd (n (ap (λ l. getD l 0 0) (sym e)))
+same-corners (p ∷ l) (q ∷ k) r s a b m n e =
+    let t = same-corner p q (flatMap cornerRecord l ++ r) (flatMap cornerRecord k ++ s) (a .0) (b .0) e in
+    let u = same-corners l k r s (a .1) (b .1) m n (t .1) in
+    (cc (t .0, u .0), u .1)
+
+-- ---- entries
+
+-- a run's figures fit their fields
+pub record EntryFits (e : Entry) : Type 0 where
+  pub number-fits : e .number < 65536
+  pub meets-fits : e .meets < 65536
+
+-- bytes that begin with an end record
+abbrev Ends : List ℕ → Type 0
+Ends r = getD r 0 0 ≡ 0x5A
+
+-- behind a route's corners stands the next route record or the end
+no-corner : (es : List Entry) (r : List ℕ) → Ends r → NoCorner (flatMap entryBytes es ++ r)
+unfolding flatMap
+no-corner [] r m c = omega (arith, sym m ∙ c)
+no-corner (e ∷ es) r m c = omega arith
+
+-- the corners of all entries
+abbrev cornersIn : List Entry → List Route
+cornersIn es = map (λ e. e .corners) es
+
+-- the entries up to the end record have the same corners, and are the same where their figures fit
+same-entries : (es fs : List Entry) (r s : List ℕ) → All (All InRange) (cornersIn es) → All (All InRange) (cornersIn fs) → Ends r → Ends s
+    → flatMap entryBytes es ++ r ≡ flatMap entryBytes fs ++ s
+    → (cornersIn es ≡ cornersIn fs) × (All EntryFits es → All EntryFits fs → es ≡ fs) × (r ≡ s)
+unfolding flatMap
+same-entries [] [] r s a b m n e = (refl, λ h k. refl, e)
+same-entries [] (f ∷ fs) r s a b m n e =
+    let z : _≡_ {A = ℕ} 0x5A 0x4E = sym m ∙ ap (λ l. getD l 0 0) e in
+    absurd (omega arith)
+same-entries (x ∷ es) [] r s a b m n e =
+    let z : _≡_ {A = ℕ} 0x5A 0x4E = sym n ∙ ap (λ l. getD l 0 0) (sym e) in
+    absurd (omega arith)
+same-entries (x ∷ es) (y ∷ fs) r s a b m n e =
+    let c = sym (append-assoc (flatMap cornerRecord (x .corners)) (flatMap entryBytes es) r) ∙ ap (drop 7) e ∙ append-assoc (flatMap cornerRecord (y .corners)) (flatMap entryBytes fs) s in
+    let t = same-corners (x .corners) (y .corners) (flatMap entryBytes es ++ r) (flatMap entryBytes fs ++ s) (a .0) (b .0) (no-corner es r m) (no-corner fs s n) c in
+    let u = same-entries es fs r s (a .1) (b .1) m n (t .1) in (
+      cc (t .0, u .0),
+      λ h k.
+          let p = same2 (x .number) (y .number) _ _ (h .0 .number-fits) (k .0 .number-fits) (ap (drop 1) e) in
+          let q = same2 (x .meets) (y .meets) _ _ (h .0 .meets-fits) (k .0 .meets-fits) (ap (drop 3) e) in
+          let o : x ≡ y = λ i. record { number = p i; meets = q i; corners = t .0 i } in
+          cc (o, u .1 (h .1) (k .1)),
+      u .2,
+    )
+
+-- ---- the whole plan
+
+module _ (g h : Head) (es fs : List Entry) (a : All (All InRange) (cornersIn es)) (b : All (All InRange) (cornersIn fs)) (e : bookBytes g es ≡ bookBytes h fs) where
+  -- both plans, read off from behind the head
+  read-off : (cornersIn es ≡ cornersIn fs) × (All EntryFits es → All EntryFits fs → es ≡ fs) × (endRecord (totalCorners es) ≡ endRecord (totalCorners fs))
+  unfolding bookBytes
+  read-off = same-entries es fs (endRecord (totalCorners es)) (endRecord (totalCorners fs)) a b refl refl (ap (drop 19) e)
+
+  -- Two plans with the same bytes have the same corners.
+  pub book-corners : cornersIn es ≡ cornersIn fs
+  book-corners = read-off .0
+
+  -- and the same numbers and meets figures, where these fit their fields
+  pub book-entries : All EntryFits es → All EntryFits fs → es ≡ fs
+  book-entries = read-off .1
+
+-- a head's figures fit their fields
+pub record HeadFits (h : Head) : Type 0 where
+  pub job-fits : h .job < 2 ^ 32
+  pub runs-fits : h .runs < 65536
+  pub trench-fits : h .trench < 2 ^ 32
+  pub saved-fits : h .saved < 2 ^ 32
+  pub pits-fits : h .pits < 65536
+  pub centre-fits : h .centre < 65536
+
+-- Two plans with the same bytes have the same figures, where these fit their fields.
+pub book-head : (g h : Head) (es fs : List Entry) → HeadFits g → HeadFits h → bookBytes g es ≡ bookBytes h fs → g ≡ h
+unfolding bookBytes
+book-head g h es fs m n e =
+    let p = same4 (g .job) (h .job) _ _ (m .job-fits) (n .job-fits) (ap (drop 1) e) in
+    let q = same2 (g .runs) (h .runs) _ _ (m .runs-fits) (n .runs-fits) (ap (drop 5) e) in
+    let t = same4 (g .trench) (h .trench) _ _ (m .trench-fits) (n .trench-fits) (ap (drop 7) e) in
+    let s = same4 (g .saved) (h .saved) _ _ (m .saved-fits) (n .saved-fits) (ap (drop 11) e) in
+    let o = same2 (g .pits) (h .pits) _ _ (m .pits-fits) (n .pits-fits) (ap (drop 15) e) in
+    let c = same2 (g .centre) (h .centre) _ _ (m .centre-fits) (n .centre-fits) (ap (drop 17) e) in
+    λ i. record { job = p i; runs = q i; trench = t i; saved = s i; pits = o i; centre = c i }

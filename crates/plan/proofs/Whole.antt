@@ -1,0 +1,103 @@
+-- The plan of a job's routes: what the code writes is `planBytes` of the routes that its steps draw, no plan exceeds 36,822 bytes, and its bytes
+-- determine its corners.
+use mathlib.Core.Path.{_≡_, refl, sym, ap, _∙_}
+use mathlib.Core.List.{List, [], _∷_, map, map-map}
+use Prim.Native.Nat.{ℕ, suc, _+_, _≤_, _<_}
+use native.Mathlib.Omega.{arith}
+use lib.ListN.{length, getD, length-map}
+use Rattle.network.specs.Lists.{All}
+use Rattle.network.specs.Plane.{Run}
+use Rattle.network.specs.Grid.{Grid}
+use Rattle.network.specs.Hanan.{hanan}
+use Rattle.network.specs.Route.{Route, Routes}
+use Rattle.network.specs.Corners.{corners}
+use Rattle.route.specs.declared.Route.{Route as Steps}
+use Rattle.route.specs.Route.{OnGrid, drawnOf, cornersOf, placed, Tables}
+use Rattle.route.proofs.Lists.{map-cong}
+use Rattle.route.proofs.Corners.{corners-placed}
+use Rattle.route.proofs.Few.{manhattan-few}
+use Rattle.plan.specs.declared.Head.{Head}
+use Rattle.plan.specs.Plan.{Entry, bookBytes, entriesFrom, headOf, meetsOf, drawnBytes, planBytes, entriesAt}
+use Rattle.plan.proofs.Length.{book-most, entries-length, entries-all}
+use Rattle.plan.proofs.Determined.{InRange, book-corners, HeadFits, book-head}
+
+-- ---- the bytes determine the corners
+
+-- the corners of the entries are those that they were made of
+pub entries-corners : (number meets : ℕ → ℕ) (i : ℕ) (own : List Route) → map (λ e. e .corners) (entriesFrom number meets i own) ≡ own
+entries-corners number meets i [] = refl
+entries-corners number meets i (c ∷ own) = ap (λ l. c ∷ l) (entries-corners number meets (suc i) own)
+
+-- Two plans with the same bytes, of whatever jobs, draw the same routes.
+pub drawn-same : (j k : ℕ) (ns ms : List ℕ) (runs others : List Run) (own theirs : List Route) → All (All InRange) own → All (All InRange) theirs
+    → drawnBytes j ns runs own ≡ drawnBytes k ms others theirs → own ≡ theirs
+unfolding drawnBytes
+drawn-same j k ns ms runs others own theirs a b e =
+    let p = entries-corners (λ i. getD ns i 0) (meetsOf runs) 0 own in
+    let q = entries-corners (λ i. getD ms i 0) (meetsOf others) 0 theirs in
+    sym p ∙ book-corners (headOf j ns runs own) (headOf k ms others theirs) _ _ (rw p a) (rw q b) e ∙ q
+
+-- Two plans with the same bytes, of whatever jobs, have the same corners.
+pub plan-same : (j k : ℕ) (ns ms : List ℕ) (runs others : List Run) (routes theirs : List Route)
+    → All (All InRange) (map corners routes) → All (All InRange) (map corners theirs)
+    → planBytes j ns runs routes ≡ planBytes k ms others theirs → map corners routes ≡ map corners theirs
+unfolding planBytes
+plan-same j k ns ms runs others routes theirs = drawn-same j k ns ms runs others (map corners routes) (map corners theirs)
+
+-- Two plans with the same bytes have the same figures, where these fit their fields.
+pub plan-figures : (j k : ℕ) (ns ms : List ℕ) (runs others : List Run) (routes theirs : List Route) → HeadFits (headOf j ns runs (map corners routes))
+    → HeadFits (headOf k ms others (map corners theirs)) → planBytes j ns runs routes ≡ planBytes k ms others theirs
+    → headOf j ns runs (map corners routes) ≡ headOf k ms others (map corners theirs)
+unfolding planBytes drawnBytes
+plan-figures j k ns ms runs others routes theirs = book-head (headOf j ns runs (map corners routes)) (headOf k ms others (map corners theirs)) _ _
+
+-- ---- what the code writes
+
+-- the same entries from figures that are the same at each run
+entries-cong : (n m n′ m′ : ℕ → ℕ) (i : ℕ) (own : List Route) → ((k : ℕ) → k < i + length own → (n k ≡ n′ k) × (m k ≡ m′ k))
+    → entriesFrom n m i own ≡ entriesFrom n′ m′ i own
+entries-cong n m n′ m′ i [] h = refl
+entries-cong n m n′ m′ i (c ∷ own) h =
+    let t = h i (omega arith) in
+    let e : _≡_ {A = Entry} (record { number = n i; meets = m i; corners = c }) (record { number = n′ i; meets = m′ i; corners = c }) =
+    λ k. record { number = t .0 k; meets = t .1 k; corners = c } in
+    cc (e, entries-cong n m n′ m′ (suc i) own (λ k f. h k (omega arith)))
+
+-- The bytes that `write_plan` writes are the plan of the routes that the steps draw on the job's grid, where the head's figures are those of the
+-- routes, and the tables hold the grid's lines, the runs' numbers and their meets figures.
+pub plan-written : (job : ℕ) (numbers : List ℕ) (runs : List Run) (columns rows ns ms : List ℕ) (routes : List Steps) (head : Head)
+    → length (hanan runs .columns) ≤ 64 → length (hanan runs .rows) ≤ 64 → Tables (hanan runs) columns rows → All (OnGrid (hanan runs)) routes
+    → head ≡ headOf job numbers runs (map (λ r. corners (drawnOf (hanan runs) r)) routes)
+    → ((i : ℕ) → i < length routes → (getD ns i 0 ≡ getD numbers i 0) × (getD ms i 0 ≡ meetsOf runs i))
+    → bookBytes head (entriesAt columns rows ns ms routes) ≡ planBytes job numbers runs (map (drawnOf (hanan runs)) routes)
+unfolding planBytes drawnBytes entriesAt
+plan-written job numbers runs columns rows ns ms routes head fc fr t a h f =
+    let g = hanan runs in
+    let p : map (λ r. map (placed columns rows) (cornersOf r)) routes ≡ map (λ r. corners (drawnOf g r)) routes =
+    map-cong (OnGrid g) (λ r. map (placed columns rows) (cornersOf r)) (λ r. corners (drawnOf g r)) (corners-placed g fc fr columns rows t) routes a in
+    let own = map (λ r. corners (drawnOf g r)) routes in
+    let n : length own ≡ length routes = length-map routes (λ r. corners (drawnOf g r)) in
+    rw (map-map corners (drawnOf g) routes, h, p)
+    (ap (bookBytes (headOf job numbers runs own))
+    (entries-cong (λ i. getD ns i 0) (λ i. getD ms i 0) (λ i. getD numbers i 0) (meetsOf runs) 0 own (λ k l. f k (omega arith))))
+
+-- ---- no plan is long
+
+-- Manhattan routes are as many as their runs, and have at most 127 corners each
+routes-few : (g : Grid) → length (g .columns) ≤ 64 → length (g .rows) ≤ 64 → (runs : List Run) (routes : List Route) → Routes g runs routes
+    → (length routes ≡ length runs) × All (λ c. length c ≤ 127) (map corners routes)
+routes-few g h k [] [] m = (refl, tt)
+routes-few g h k (run ∷ runs) (route ∷ routes) m =
+    let t = routes-few g h k runs routes (m .1) in
+    (ap suc (t .0), (omega (arith, manhattan-few g run route (m .0)), t .1))
+
+-- No plan of at most 32 runs on at most 64 columns and 64 rows exceeds 36,822 bytes, whatever Manhattan routes it has.
+pub plan-most : (job : ℕ) (numbers : List ℕ) (runs : List Run) (routes : List Route) → length runs ≤ 32 → length (hanan runs .columns) ≤ 64
+    → length (hanan runs .rows) ≤ 64 → Routes (hanan runs) runs routes → length (planBytes job numbers runs routes) ≤ 36822
+unfolding planBytes drawnBytes
+plan-most job numbers runs routes n h k m =
+    let own = map corners routes in
+    let t = routes-few (hanan runs) h k runs routes m in
+    book-most (headOf job numbers runs own) (entriesFrom (λ i. getD numbers i 0) (meetsOf runs) 0 own)
+    (omega (arith, entries-length (λ i. getD numbers i 0) (meetsOf runs) 0 own, length-map routes corners, t .0))
+    (entries-all (λ c. length c ≤ 127) (λ i. getD numbers i 0) (meetsOf runs) 0 own (t .1))

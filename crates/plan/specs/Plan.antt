@@ -1,0 +1,87 @@
+-- The bytes of a plan (01, Plan book): first from given figures, then of a job's routes, with every figure measured on the routes that the corner
+-- records draw.
+use mathlib.Core.Path.{_≡_}
+use mathlib.Core.List.{List, [], _∷_, _++_, map, flatMap}
+use Prim.Native.Nat.{ℕ, suc, _-_, _≤_}
+use lib.ListN.{length, getD}
+use Rattle.network.specs.Lists.{sum}
+use Rattle.network.specs.Plane.{Run, distance}
+use Rattle.network.specs.Hanan.{hanan}
+use Rattle.network.specs.Route.{Route, unionLength}
+use Rattle.network.specs.Graph.{meets, below, degree, centres}
+use Rattle.network.specs.Corners.{corners}
+use Rattle.route.specs.declared.Route.{Route as Steps}
+use Rattle.route.specs.Route.{cornersOf, placed}
+use Rattle.route.specs.Pits.{pitsOf}
+use Rattle.plan.specs.declared.Head.{Head}
+use Rattle.plan.specs.declared.Written.{Written}
+use Rattle.plan.specs.Bytes.{Wrote}
+use Rattle.plan.specs.Records.{headRecord, routeRecord, cornerRecord, endRecord}
+
+-- ---- from given figures
+
+-- what a plan says of a run: its number, its meets figure and the corners of its route
+pub record Entry : Type 0 where
+  pub number : ℕ
+  pub meets : ℕ
+  pub corners : Route
+
+-- a route record, followed by its corners
+abbrev pub entryBytes : Entry → List ℕ
+entryBytes e = routeRecord (e .number) (e .meets) (length (e .corners)) ++ flatMap cornerRecord (e .corners)
+
+abbrev pub totalCorners : List Entry → ℕ
+totalCorners es = sum (λ e. length (e .corners)) es
+
+-- "There is one route record for each run of the job; they stand in job order, each followed by its corners"
+unfoldable pub bookBytes : Head → List Entry → List ℕ
+bookBytes head es = headRecord head ++ (flatMap entryBytes es ++ endRecord (totalCorners es))
+
+-- the entries of routes, given by their corners, of the runs from index i on
+abbrev pub entriesFrom : (number meets : ℕ → ℕ) → ℕ → List Route → List Entry
+entriesFrom number meets i [] = []
+entriesFrom number meets i (c ∷ routes) = record { number = number i; meets = meets i; corners = c } ∷ entriesFrom number meets (suc i) routes
+
+-- ---- of a job's routes
+
+-- "Trench is the length of their union; saved is the sum of all runs' Manhattan distances less trench. Pits is the number of distinct points that
+-- are an end or a turn of some route." `own` are the plan's own routes, those that its corner records draw.
+abbrev pub headOf : (job : ℕ) (numbers : List ℕ) → List Run → (own : List Route) → Head
+headOf job numbers runs own =
+    record {
+      job = job;
+      runs = length runs;
+      trench = unionLength (hanan runs) own;
+      saved = sum distance runs - unionLength (hanan runs) own;
+      pits = pitsOf own;
+      centre = getD numbers (getD (centres (meets (hanan runs) runs) (below (length runs))) 0 0) 0;
+    }
+
+-- "Each run's meets figure is the exact count of runs that it meets."
+abbrev pub meetsOf : List Run → ℕ → ℕ
+meetsOf runs i = degree (meets (hanan runs) runs) (below (length runs)) i
+
+-- the plan whose corner records draw the routes
+unfoldable pub drawnBytes : (job : ℕ) (numbers : List ℕ) → List Run → (own : List Route) → List ℕ
+drawnBytes job numbers runs own =
+    bookBytes (headOf job numbers runs own) (entriesFrom (λ i. getD numbers i 0) (meetsOf runs) 0 own)
+
+-- the plan of some routes: its corners are their ends and turns
+unfoldable pub planBytes : (job : ℕ) (numbers : List ℕ) → List Run → List Route → List ℕ
+planBytes job numbers runs routes = drawnBytes job numbers runs (map corners routes)
+
+-- ---- of the routes that the code holds, in line indexes, with tables of the columns and the rows
+
+abbrev pub entryAt : (columns rows : List ℕ) (number meets : ℕ) → Steps → Entry
+entryAt columns rows number meets r = record { number = number; meets = meets; corners = map (placed columns rows) (cornersOf r) }
+
+-- the runs' numbers and meets figures stand in tables too
+unfoldable pub entriesAt : (columns rows numbers meets : List ℕ) → List Steps → List Entry
+entriesAt columns rows numbers meets routes =
+    entriesFrom (λ i. getD numbers i 0) (λ i. getD meets i 0) 0 (map (λ r. map (placed columns rows) (cornersOf r)) routes)
+
+-- what the writer of the runs makes of xs
+pub record WroteRuns (es : List Entry) (xs ys : List ℕ) (w : Written) : Type 0 where
+  pub wrote : Wrote (flatMap entryBytes es) xs ys (w .bytes)
+  pub total : w .corners ≡ totalCorners es
+  pub few : w .corners ≤ 4064

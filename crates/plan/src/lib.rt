@@ -1,0 +1,214 @@
+// The plan book: each record is written into the rest of the plan buffer behind the record before it.
+use route::Route;
+use route::Vertex;
+use route::Walker;
+ghost use mathlib.Core.Path.{_≡_};
+ghost use mathlib.Core.List.{[], _∷_, map, flatMap};
+ghost use Prim.Native.Nat.{_+_, _*_, _<_, _≤_};
+ghost use lib.ListN.{length, take};
+ghost use Rattle.network.specs.Lists.{All};
+ghost use Rattle.job.specs.Fields.{wordOf};
+ghost use Rattle.job.specs.Written.{bytes2, bytes4};
+ghost use Rattle.route.specs.Route.{OnGrid, numbered, cornersOf, placed};
+ghost use Rattle.route.specs.Pits.{crossing};
+ghost use Rattle.plan.specs.Bytes.{over, behind, Wrote};
+ghost use Rattle.plan.specs.Records.{headRecord, routeRecord, cornerRecord, endRecord};
+ghost use Rattle.plan.specs.Plan.{entryBytes, bookBytes, entryAt, entriesAt, WroteRuns};
+
+// The figures of a plan's head. Of runs, pits and centre the lower two bytes are written.
+pub struct Head {
+    pub job: u32,
+    pub runs: u32,
+    pub trench: u32,
+    pub saved: u32,
+    pub pits: u32,
+    pub centre: u32,
+}
+
+// How many bytes were written, and how many corner records are among them.
+pub struct Written {
+    pub bytes: usize,
+    pub corners: usize,
+}
+
+fn put1(out: &mut [u8], v: u8)
+    requires { ⌜ 1 ≤ length (now out) ⌝ }
+    ensures { λ _. ⌜ now (out .exit) ≡ over (v ∷ []) (now (out .entry)) ⌝ }
+{
+    out[0] = v;
+}
+
+fn put2(out: &mut [u8], at: usize, v: u32)
+    requires { ⌜ at + 2 ≤ length (now out) ⌝ }
+    ensures { λ _. ⌜ now (out .exit) ≡ behind at (bytes2 v) (now (out .entry)) ⌝ }
+{
+    out[at] = (v % 256) as u8;
+    out[at + 1] = (v / 256 % 256) as u8;
+}
+
+fn put4(out: &mut [u8], at: usize, v: u32)
+    requires { ⌜ at + 4 ≤ length (now out) ⌝ }
+    ensures { λ _. ⌜ now (out .exit) ≡ behind at (bytes4 v) (now (out .entry)) ⌝ }
+{
+    out[at] = (v % 256) as u8;
+    out[at + 1] = (v / 256 % 256) as u8;
+    out[at + 2] = (v / 65536 % 256) as u8;
+    out[at + 3] = (v / 16777216 % 256) as u8;
+}
+
+// The word of a coordinate, which is held with 1,000,000 added to it.
+fn word(c: u32) -> u32
+    ensures { λ w. ⌜ w ≡ wordOf c ⌝ }
+{
+    ((c as u64 + 4293967296) % 4294967296) as u32
+}
+
+fn write_head(out: &mut [u8], head: Head) -> usize
+    requires { ⌜ 19 ≤ length (now out) ⌝ }
+    ensures { λ n. ⌜ Wrote (headRecord head) (now (out .entry)) (now (out .exit)) n ⌝ }
+{
+    put1(out, 0x50);
+    put4(out, 1, head.job);
+    put2(out, 5, head.runs);
+    put4(out, 7, head.trench);
+    put4(out, 11, head.saved);
+    put2(out, 15, head.pits);
+    put2(out, 17, head.centre);
+    19
+}
+
+fn write_route(out: &mut [u8], number: u32, meets: u32, corners: u32) -> usize
+    requires { ⌜ 7 ≤ length (now out) ⌝ }
+    ensures { λ n. ⌜ Wrote (routeRecord number meets corners) (now (out .entry)) (now (out .exit)) n ⌝ }
+{
+    put1(out, 0x4E);
+    put2(out, 1, number);
+    put2(out, 3, meets);
+    put2(out, 5, corners);
+    7
+}
+
+fn write_end(out: &mut [u8], corners: u32) -> usize
+    requires { ⌜ 3 ≤ length (now out) ⌝ }
+    ensures { λ n. ⌜ Wrote (endRecord corners) (now (out .entry)) (now (out .exit)) n ⌝ }
+{
+    put1(out, 0x5A);
+    put2(out, 1, corners);
+    3
+}
+
+// The corner record of a vertex, whose coordinates are those of its column and its row.
+fn write_corner(out: &mut [u8], v: Vertex, columns: &[u32; 64], rows: &[u32; 64]) -> usize
+    requires { ⌜ (v .column < 64) × (v .row < 64) × (9 ≤ length (now out)) ⌝ }
+    ensures { λ n. ⌜ Wrote (cornerRecord (placed (now (columns .entry)) (now (rows .entry)) (crossing v)))
+        (now (out .entry)) (now (out .exit)) n ⌝ }
+{
+    let column = v.column;
+    let row = v.row;
+    put1(out, 0x43);
+    put4(out, 1, word(columns[column]));
+    put4(out, 5, word(rows[row]));
+    9
+}
+
+// The corner records of a route.
+fn write_corners(out: &mut [u8], route: Route, columns: &[u32; 64], rows: &[u32; 64]) -> usize
+    requires { ⌜ OnGrid numbered route × (9 * length (cornersOf route) ≤ length (now out)) ⌝ }
+    ensures { λ n. ⌜ Wrote (flatMap cornerRecord (map (placed (now (columns .entry)) (now (rows .entry))) (cornersOf route)))
+        (now (out .entry)) (now (out .exit)) n × (n ≤ 1143) ⌝ }
+{
+    let mut w = Walker::start(route);
+    let mut at: usize = 0;
+    while w.at < route.count {
+        let s = w.step(route);
+        if s.turned {
+            at += write_corner(&mut out[at..], w.here, columns, rows);
+        }
+        w = s.walker;
+    }
+    at + write_corner(&mut out[at..], w.here, columns, rows)
+}
+
+// The route record of a run, and its corners.
+fn write_run(
+    out: &mut [u8],
+    number: u32,
+    meets: u32,
+    corners: usize,
+    route: Route,
+    columns: &[u32; 64],
+    rows: &[u32; 64],
+) -> usize
+    requires { ⌜ OnGrid numbered route × (corners ≡ length (cornersOf route)) × (7 + 9 * corners ≤ length (now out)) ⌝ }
+    ensures { λ n. ⌜ Wrote (entryBytes (entryAt (now (columns .entry)) (now (rows .entry)) number meets route))
+        (now (out .entry)) (now (out .exit)) n × (n ≤ 1150) ⌝ }
+{
+    let at = write_route(out, number, meets, corners as u32);
+    at + write_corners(&mut out[at..], route, columns, rows)
+}
+
+// The first `count` runs, one behind the other.
+fn write_runs(
+    out: &mut [u8],
+    numbers: &[u32; 32],
+    meets: &[u32; 32],
+    routes: [Route; 32],
+    count: usize,
+    columns: &[u32; 64],
+    rows: &[u32; 64],
+) -> Written
+    requires { ⌜ (count ≤ 32) × All (OnGrid numbered) (take count routes)
+        × (length (flatMap entryBytes (entriesAt (now columns) (now rows) (now numbers) (now meets) (take count routes))) ≤ length (now out)) ⌝ }
+    ensures { λ w. ⌜ WroteRuns (entriesAt (now (columns .entry)) (now (rows .entry)) (now (numbers .entry)) (now (meets .entry)) (take count routes))
+        (now (out .entry)) (now (out .exit)) w ⌝ }
+{
+    let mut at: usize = 0;
+    let mut corners: usize = 0;
+    let mut i: usize = 0;
+    while i < count {
+        let n = route::corner_count(routes[i]);
+        at += write_run(
+            &mut out[at..],
+            numbers[i],
+            meets[i],
+            n,
+            routes[i],
+            columns,
+            rows,
+        );
+        corners += n;
+        i += 1;
+    }
+    Written { bytes: at, corners }
+}
+
+// The whole plan, and its length.
+pub fn write_plan(
+    out: &mut [u8],
+    head: Head,
+    numbers: &[u32; 32],
+    meets: &[u32; 32],
+    routes: [Route; 32],
+    count: usize,
+    columns: &[u32; 64],
+    rows: &[u32; 64],
+) -> usize
+    requires { ⌜ (count ≤ 32) × All (OnGrid numbered) (take count routes)
+        × (length (bookBytes head (entriesAt (now columns) (now rows) (now numbers) (now meets) (take count routes))) ≤ length (now out)) ⌝ }
+    ensures { λ n. ⌜ Wrote
+        (bookBytes head (entriesAt (now (columns .entry)) (now (rows .entry)) (now (numbers .entry)) (now (meets .entry)) (take count routes)))
+        (now (out .entry)) (now (out .exit)) n × (n ≤ 36822) ⌝ }
+{
+    let start = write_head(out, head);
+    let w = write_runs(
+        &mut out[start..],
+        numbers,
+        meets,
+        routes,
+        count,
+        columns,
+        rows,
+    );
+    let at = start + w.bytes;
+    at + write_end(&mut out[at..], w.corners as u32)
+}

@@ -1,0 +1,2 @@
+-- Laws of the test that a route stays on the grid.
+pub mod Counts

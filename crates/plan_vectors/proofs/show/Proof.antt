@@ -1,0 +1,113 @@
+-- `plan_vectors::show` is safe: the routes are on the grid, so that their plan fits each buffer.
+use native.Mathlib.Nat.{le-trans}
+use borrow.Author.Tests.{not-false}
+use lib.ListN.{length, take, length-take}
+use Rattle.plan.proofs.Runs.{written-most}
+use Prim.Native.Nat.{_-_, _≤_}
+use native.Mathlib.Omega.{arith}
+use borrow.Author.Needs.{needs}
+use Rattle.plan_vectors.proofs.show.Statement.{statement}
+use Rattle.plan_vectors.proofs.show.Tie as tie
+
+returns : tie.Need-returns
+returns c = search needs
+
+all-on-grid-requires : tie.Need-all-on-grid-requires
+all-on-grid-requires c κs = search needs
+
+slice-aggregate-print : tie.Need-slice-aggregate-print
+slice-aggregate-print c = search needs
+
+print-requires : tie.Need-print-requires
+print-requires c κs = search needs
+
+returns-2 : tie.Need-returns-2
+returns-2 c = search needs
+
+print-routes-requires : tie.Need-print-routes-requires
+print-routes-requires c κs = (omega arith, c .before .all-on-grid .ensures (not-false _ (c .if2 .left)))
+
+pits-requires : tie.Need-pits-requires
+pits-requires c κs = (omega arith, c .before .before .all-on-grid .ensures (not-false _ (c .before .if2 .left)))
+
+slice-aggregate-print-2 : tie.Need-slice-aggregate-print-2
+slice-aggregate-print-2 c = search needs
+
+print-requires-2 : tie.Need-print-requires-2
+print-requires-2 c κs = search needs
+
+print-number-requires : tie.Need-print-number-requires
+print-number-requires c κs = search needs
+
+slice-aggregate-print-3 : tie.Need-slice-aggregate-print-3
+slice-aggregate-print-3 c = search needs
+
+print-requires-3 : tie.Need-print-requires-3
+print-requires-3 c κs = search needs
+
+cast-figures : tie.Need-cast-figures
+cast-figures c = search needs
+
+slice-aggregate-write-plan : tie.Need-slice-aggregate-write-plan
+slice-aggregate-write-plan c = search needs
+
+write-plan-requires : tie.Need-write-plan-requires
+write-plan-requires c κs =
+    let s = c .before .before .before .before .before .before .before .before .before .before .before in
+    let few : s .args .count ≤ 32 = omega (arith, c .before .before .before .before .before .before .before .before .before .before .if1 .left) in
+    let short : length (take (s .args .count) (s .args .routes)) ≤ 32 = omega (arith, length-take (s .args .count) (s .args .routes)) in
+    let a = c .before .before .before .before .before .before .before .before .before .all-on-grid .ensures (not-false _ (c .before .before .before .before .before .before .before .before .if2 .left)) in
+    (few, a, le-trans (written-most _ _ _ _ _ _ short a) (search needs))
+
+slice-aggregate-print-plan : tie.Need-slice-aggregate-print-plan
+slice-aggregate-print-plan c = search needs
+
+print-plan-requires : tie.Need-print-plan-requires
+print-plan-requires c κs = search needs
+
+slice-aggregate-write-plan-2 : tie.Need-slice-aggregate-write-plan-2
+slice-aggregate-write-plan-2 c = search needs
+
+write-plan-requires-2 : tie.Need-write-plan-requires-2
+write-plan-requires-2 c κs =
+    let s = c .before .before .before .before .before .before .before .before .before .before .before .before .before .before .before .before in
+    let few : s .args .count ≤ 32 = omega (arith, c .before .before .before .before .before .before .before .before .before .before .before .before .before .before .before .if1 .left) in
+    let short : length (take (s .args .count) (s .args .routes)) ≤ 32 = omega (arith, length-take (s .args .count) (s .args .routes)) in
+    let a = c .before .before .before .before .before .before .before .before .before .before .before .before .before .before .all-on-grid .ensures (not-false _ (c .before .before .before .before .before .before .before .before .before .before .before .before .before .if2 .left)) in
+    (few, a, le-trans (written-most _ _ _ _ _ _ short a) (search needs))
+
+slice-aggregate-print-plan-2 : tie.Need-slice-aggregate-print-plan-2
+slice-aggregate-print-plan-2 c = search needs
+
+print-plan-requires-2 : tie.Need-print-plan-requires-2
+print-plan-requires-2 c κs = search needs
+
+returns-3 : tie.Need-returns-3
+returns-3 c = search needs
+
+pub show-spec : {M : Type 1} → statement M
+show-spec =
+    tie.close
+    (tie.spec
+    returns
+    all-on-grid-requires
+    slice-aggregate-print
+    print-requires
+    returns-2
+    print-routes-requires
+    pits-requires
+    slice-aggregate-print-2
+    print-requires-2
+    print-number-requires
+    slice-aggregate-print-3
+    print-requires-3
+    cast-figures
+    slice-aggregate-write-plan
+    write-plan-requires
+    slice-aggregate-print-plan
+    print-plan-requires
+    slice-aggregate-write-plan-2
+    write-plan-requires-2
+    slice-aggregate-print-plan-2
+    print-plan-requires-2
+    returns-3)

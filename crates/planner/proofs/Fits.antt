@@ -1,0 +1,137 @@
+-- The figures and the corners of a well-formed job's plans fit their fields, so that a plan's bytes determine them.
+use mathlib.Core.Path.{_≡_, refl, sym, ap, subst}
+use mathlib.Core.Bool.{Bool, true, false}
+use mathlib.Core.List.{List, [], _∷_, _++_, map, flatten}
+use Prim.Native.Nat.{ℕ, zero, suc, _+_, _-_, _*_, _^_, _≤_, _<_}
+use native.Mathlib.Omega.{arith}
+use lib.ListN.{length, getD, length-append, length-map}
+use Rattle.network.specs.Lists.{sum, All}
+use Rattle.network.specs.Plane.{Point, Run, gap, distance}
+use Rattle.network.specs.Hanan.{xs, ys, hanan}
+use Rattle.network.specs.Route.{Route, Listed, Vertex, Manhattan, Routes, unionLength}
+use Rattle.network.specs.Graph.{meets, below, centres}
+use Rattle.network.specs.Corners.{corners}
+use Rattle.network.proofs.Counting.{counting}
+use Rattle.network.proofs.Corners.{corners-routes}
+use Rattle.network.proofs.Hanan.{distinct-listed}
+use Rattle.grid.proofs.Insert.{length-distinct}
+use Rattle.route.specs.Pits.{among, unique, pitsOf}
+use Rattle.route.proofs.Few.{manhattan-few}
+use Rattle.job.specs.declared.Run.{Run as Read}
+use Rattle.job.specs.Written.{noRun, InRange, WellFormed}
+use Rattle.plan.specs.Plan.{headOf}
+use Rattle.plan.proofs.Determined.{HeadFits}
+use Rattle.plan.proofs.Determined as determined
+use Rattle.planner.specs.Verdict.{runOf, runsOf, numbersOf}
+
+-- each run is in range
+abbrev pub AllIn : List Read → Type 0
+AllIn l = (k : ℕ) → k < length l → InRange (getD l k noRun)
+
+tail-in : (r : Read) (l : List Read) → AllIn (r ∷ l) → AllIn l
+tail-in r l h k i = h (suc k) (omega arith)
+
+-- ---- lines
+
+x-bounded : (l : List Read) → AllIn l → (i : ℕ) → i < length (xs (runsOf l)) → getD (xs (runsOf l)) i 0 ≤ 2000000
+x-bounded [] h i k = absurd (omega arith)
+x-bounded (r ∷ l) h zero k = h 0 (omega arith) .x1-in
+x-bounded (r ∷ l) h (suc zero) k = h 0 (omega arith) .x2-in
+x-bounded (r ∷ l) h (suc (suc i)) k = x-bounded l (tail-in r l h) i (omega arith)
+
+y-bounded : (l : List Read) → AllIn l → (i : ℕ) → i < length (ys (runsOf l)) → getD (ys (runsOf l)) i 0 ≤ 2000000
+y-bounded [] h i k = absurd (omega arith)
+y-bounded (r ∷ l) h zero k = h 0 (omega arith) .y1-in
+y-bounded (r ∷ l) h (suc zero) k = h 0 (omega arith) .y2-in
+y-bounded (r ∷ l) h (suc (suc i)) k = y-bounded l (tail-in r l h) i (omega arith)
+
+-- a vertex of the job's grid is in range
+pub vertex-in : (l : List Read) → AllIn l → (p : Point) → Vertex (hanan (runsOf l)) p → determined.InRange p
+vertex-in l h p v =
+    let (i, a, e) = distinct-listed (xs (runsOf l)) (p .x) (v .column) in
+    let (j, b, d) = distinct-listed (ys (runsOf l)) (p .y) (v .row) in
+    record { x-in = omega (arith, x-bounded l h i a); y-in = omega (arith, y-bounded l h j b) }
+
+x-count : (l : List Read) → (length (xs (runsOf l)) ≡ length l + length l) × (length (ys (runsOf l)) ≡ length l + length l)
+x-count [] = (refl, refl)
+x-count (r ∷ l) = omega (arith, x-count l)
+
+-- a job has at most 64 columns and 64 rows
+pub few-lines : (l : List Read) → length l ≤ 32 → (length (hanan (runsOf l) .columns) ≤ 64) × (length (hanan (runsOf l) .rows) ≤ 64)
+few-lines l h = omega (arith, x-count l, length-distinct (xs (runsOf l)), length-distinct (ys (runsOf l)))
+
+-- ---- corners
+
+all-in : (l : List Read) → AllIn l → (p : List Point) → All (Vertex (hanan (runsOf l))) p → All determined.InRange p
+all-in l h [] v = tt
+all-in l h (p ∷ ps) v = (vertex-in l h p (v .0), all-in l h ps (v .1))
+
+routes-in : (l : List Read) → AllIn l → (rs : List Run) (routes : List Route) → Routes (hanan (runsOf l)) rs routes → All (All determined.InRange) routes
+routes-in l h [] [] m = tt
+routes-in l h (r ∷ rs) (route ∷ routes) m = (all-in l h route (m .0 .vertices), routes-in l h rs routes (m .1))
+
+-- the corners of a plan are in range
+pub corners-in : (l : List Read) → AllIn l → (routes : List Route) → Routes (hanan (runsOf l)) (runsOf l) routes
+    → All (All determined.InRange) (map corners routes)
+corners-in l h routes m = routes-in l h (runsOf l) (map corners routes) (corners-routes (hanan (runsOf l)) (runsOf l) routes m)
+
+-- ---- figures
+
+pub distances-bounded : (l : List Read) → AllIn l → sum distance (runsOf l) ≤ 4000000 * length l
+unfolding distance gap
+distances-bounded [] h = omega arith
+distances-bounded (r ∷ l) h = omega (arith, distances-bounded l (tail-in r l h), h 0 (omega arith))
+
+number-bounded : (l : List Read) → AllIn l → (i : ℕ) → getD (numbersOf l) i 0 ≤ 9999
+number-bounded [] h i = omega arith
+number-bounded (r ∷ l) h zero = h 0 (omega arith) .most
+number-bounded (r ∷ l) h (suc i) = number-bounded l (tail-in r l h) i
+
+unique-few : (l : List Point) → length (unique l) ≤ length l
+unfolding unique
+unique-few [] = omega arith
+unique-few (p ∷ l) = go (among p l) (unique-few l)
+  where
+    go : (b : Bool) → length (unique l) ≤ length l → length {A = Point} (elim b as (λ u. List Point) [ true ↦ unique l | false ↦ p ∷ unique l ]) ≤ suc (length l)
+    go true h = omega arith
+    go false h = omega arith
+
+-- routes on at most 64 columns and 64 rows have few corners
+corners-few : (l : List Read) → length l ≤ 32 → (rs : List Run) (routes : List Route) → Routes (hanan (runsOf l)) rs routes
+    → length (flatten (map corners routes)) ≤ 127 * length rs
+unfolding flatten
+corners-few l h [] [] m = omega arith
+corners-few l h (r ∷ rs) (route ∷ routes) m =
+    omega (
+      arith,
+      few-lines l h,
+      manhattan-few (hanan (runsOf l)) r route (m .0),
+      length-append (corners route) (flatten (map corners routes)),
+      corners-few l h rs routes (m .1),
+    )
+
+pub pits-bounded : (l : List Read) → length l ≤ 32 → (routes : List Route) → Routes (hanan (runsOf l)) (runsOf l) routes → pitsOf (map corners routes) ≤ 4064
+unfolding pitsOf
+pits-bounded l h routes m =
+    omega (
+      arith,
+      unique-few (flatten (map corners routes)),
+      corners-few l h (runsOf l) routes m,
+      length-map l runOf,
+    )
+
+-- the figures of a plan fit their fields
+pub head-fits : (number : ℕ) (l : List Read) → WellFormed number l → (routes : List Route) → Routes (hanan (runsOf l)) (runsOf l) routes
+    → HeadFits (headOf number (numbersOf l) (runsOf l) (map corners routes))
+head-fits number l w routes m =
+    let g = hanan (runsOf l) in
+    let d = distances-bounded l (w .in-range) in
+    let c = counting g (runsOf l) (map corners routes) (corners-routes g (runsOf l) routes m) in
+    record {
+      job-fits = w .fits;
+      runs-fits = omega (arith, w .most, length-map l runOf);
+      trench-fits = omega (arith, w .most);
+      saved-fits = omega (arith, w .most);
+      pits-fits = omega (arith, pits-bounded l (w .most) routes m);
+      centre-fits = omega (arith, number-bounded l (w .in-range) (getD (centres (meets g (runsOf l)) (below (length (runsOf l)))) 0 0));
+    }

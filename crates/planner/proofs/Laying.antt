@@ -1,0 +1,113 @@
+-- From the table and its walk to routes that save the most: what the stages of `lay` promise, put together.
+use mathlib.Core.Path.{_≡_, refl, sym, ap, _∙_, subst}
+use mathlib.Core.List.{List, [], _∷_, map}
+use Prim.Native.Nat.{ℕ, zero, suc, _*_, _≤_, _<_}
+use native.Mathlib.Nat.{mul-le-mul}
+use native.Mathlib.Omega.{arith}
+use lib.ListN.{length, getD, take}
+use lib.Seq.{length-take-le}
+use Rattle.network.specs.Lists.{All}
+use Rattle.network.specs.Plane.{Run}
+use Rattle.network.specs.Hanan.{hanan}
+use Rattle.network.specs.Steps.{hor, ver}
+use Rattle.sharing.specs.Table.{Table}
+use Rattle.sharing.specs.Star.{Centred}
+use Rattle.table.specs.declared.side.Side.{Side}
+use Rattle.table.specs.declared.frame.Group.{Group}
+use Rattle.table.specs.declared.trace.Trace.{Trace}
+use Rattle.table.specs.Side.{firstOf, secondOf, Placed}
+use Rattle.table.specs.Frame.{Grouped}
+use Rattle.table.specs.Rule.{tableOf, Ruled, figureOf, Beyond}
+use Rattle.table.specs.Rule as rule
+use Rattle.table.specs.Walk.{movesOf, walked}
+use Rattle.table.proofs.Lines.{gap-lt}
+use Rattle.table.proofs.Star.{firsts, seconds, viewOf, boxOf, group-fit}
+use Rattle.table.proofs.Survey.{surveyed-centred, star-exact, star-figure, star-traced}
+use Rattle.route.specs.declared.Route.{Route}
+use Rattle.route.specs.Route.{OnGrid}
+use Rattle.layout.specs.Laid.{unlaid, AllLayable, AllLaid}
+use Rattle.layout.proofs.Fitting.{traced-layable}
+use Rattle.layout.proofs.Drawing.{laid-on-grid, laid-best}
+use Rattle.planner.specs.declared.star.Layout.{Layout}
+use Rattle.planner.specs.Stages.{StarSurveyed, LaidOut}
+
+-- what holds of the first n by their index
+all-first : {A : Type 0} (P : A → Type 0) (n : ℕ) (l : List A) (d : A) → n ≤ length l → ((k : ℕ) → k < n → P (getD l k d)) → All P (take n l)
+all-first P zero l d h f = tt
+all-first P (suc n) [] d h f = absurd (omega arith)
+all-first P (suc n) (a ∷ l) d h f = (f 0 (omega arith), all-first P n l d (omega arith) (λ k i. f (suc k) (omega arith)))
+
+module _ (runs : List Run) (xs ys : Side) (n c leaves : ℕ) (L : StarSurveyed runs xs ys n c leaves) where
+  few-runs : n ≤ 32
+  few-runs = omega (arith, L .surveyed .few, L .count)
+
+  in-list : (k : ℕ) → k < n → k < length runs
+  in-list k h = omega (arith, L .count)
+
+  placed-x : Placed xs n
+  placed-x k h = (
+    omega (arith, L .surveyed .first-at k (in-list k h) .fits hor, L .few-lines hor),
+    omega (arith, L .surveyed .second-at k (in-list k h) .fits hor, L .few-lines hor),
+  )
+
+  placed-y : Placed ys n
+  placed-y k h = (
+    omega (arith, L .surveyed .first-at k (in-list k h) .fits ver, L .few-lines ver),
+    omega (arith, L .surveyed .second-at k (in-list k h) .fits ver, L .few-lines ver),
+  )
+
+  -- what the group asks for
+  pub group-asks : (n ≤ 32) × Placed xs n × Placed ys n × (c < n)
+  group-asks = (few-runs, placed-x, placed-y, L .listed)
+
+  centred : Centred (viewOf (hanan runs) xs ys c) runs (boxOf (hanan runs) xs ys c) c
+  centred = surveyed-centred (hanan runs) runs xs ys c leaves (L .surveyed) (in-list c (L .listed)) (L .star)
+
+  module _ (g : Group) (G : Grouped xs ys n c leaves g) where
+    -- the table takes at most 16,384 words
+    table-room : g .h * g .w * 4 ≤ 16384
+    table-room =
+        let w = gap-lt 64 (firstOf xs c) (secondOf xs c) (placed-x c (L .listed) .0) (placed-x c (L .listed) .1) in
+        let h = gap-lt 64 (firstOf ys c) (secondOf ys c) (placed-y c (L .listed) .0) (placed-y c (L .listed) .1) in
+        let wide : g .w ≤ 64 = omega (arith, G .wide) in
+        let high : g .h ≤ 64 = omega (arith, G .high) in
+        omega (arith, mul-le-mul high wide)
+
+    pub group-fits : (words : List ℕ) → 16384 ≤ length words → rule.Fit g words
+    group-fits words h = group-fit g xs ys n c leaves words G placed-x placed-y (L .listed) (L .short) (omega (arith, table-room))
+
+    -- nothing behind the 16,384 words changes
+    pub work-beyond : (old new : List ℕ) → Beyond old new (g .h * g .w * 4) → Beyond old new 16384
+    work-beyond old new b = record { size = b .size; same = λ k h. b .same k (omega (arith, table-room)) }
+
+    module _ (words : List ℕ) (R : Ruled g words) where
+      G′ : Grouped xs ys (length runs) c leaves g
+      G′ = subst (λ m. Grouped xs ys m c leaves g) (sym (L .count)) G
+
+      abbrev T : Table
+      T = tableOf (g .w) words
+
+      -- the walk fits the runs
+      pub walk-fits : AllLayable xs ys n c (walked g words)
+      walk-fits =
+          subst (λ m. AllLayable xs ys m c (walked g words)) (L .count)
+          (traced-layable (hanan runs) runs xs ys c leaves (L .surveyed) (L .few-lines) centred (L .star) T (walked g words)
+          (star-traced (hanan runs) runs xs ys c leaves (L .surveyed) centred g G′ words R))
+
+      -- and the routes laid by it save the most
+      pub laid-out : (routes : List Route) → 32 ≤ length routes → AllLaid xs ys n c (walked g words) routes
+          → (saved : ℕ) → saved ≡ figureOf g words → LaidOut runs (record { saved = saved; routes = routes })
+      laid-out routes full laid saved e =
+          let size : length runs ≤ length routes = omega (arith, few-runs, L .count) in
+          let exact = star-exact (hanan runs) runs xs ys c leaves (L .surveyed) centred g G′ words R in
+          let traced = star-traced (hanan runs) runs xs ys c leaves (L .surveyed) centred g G′ words R in
+          let all : AllLaid xs ys (length runs) c (walked g words) routes
+          = subst (λ m. AllLaid xs ys m c (walked g words) routes) (sym (L .count)) laid in
+          record {
+            best = rw (e ∙ star-figure (hanan runs) runs xs ys c leaves (L .surveyed) centred g G′ words R)
+                (laid-best (hanan runs) runs xs ys c leaves (L .surveyed) (walked g words) (L .few-lines) (in-list c (L .listed)) (L .star) T exact traced routes size all);
+            on-grid = all-first (OnGrid (hanan runs)) (length runs) routes unlaid size (λ k h.
+                laid-on-grid xs ys c (walked g words) k (getD routes k unlaid) (walk-fits .layable k (omega (arith, L .count))) (all .laid k h) (hanan runs)
+                (L .surveyed .first-at k h .fits hor, L .surveyed .second-at k h .fits hor) (L .surveyed .first-at k h .fits ver, L .surveyed .second-at k h .fits ver));
+            full = length-take-le (length runs) routes size;
+          }

@@ -1,0 +1,14 @@
+-- The laws behind the planner's contract, and what follows from it.
+pub mod Demands
+pub mod Centred
+pub mod Fits
+pub mod Surveyed
+pub mod Held
+pub mod Verdicts
+pub mod Distances
+pub mod Judged
+pub mod Laying
+pub mod Writing
+pub mod Planned
+pub mod MapScreen
+pub mod Minus

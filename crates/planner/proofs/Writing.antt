@@ -1,0 +1,148 @@
+-- The plan that is written is that of the routes that were laid: its figures are measured on them.
+use mathlib.Core.Path.{_≡_, refl, sym, ap, _∙_, subst}
+use mathlib.Core.List.{List, [], _∷_, map, map-map}
+use Prim.Native.Nat.{ℕ, _+_, _-_, _≤_, _<_, _%_}
+use native.Mathlib.Omega.{arith}
+use lib.ListN.{length, getD, take, length-map}
+use Rattle.network.specs.Lists.{sum, All}
+use Rattle.network.specs.Plane.{Run, distance}
+use Rattle.network.specs.Grid.{Grid}
+use Rattle.network.specs.Hanan.{hanan}
+use Rattle.network.specs.Route.{unionLength}
+use Rattle.network.specs.Corners.{corners}
+use Rattle.network.specs.Graph.{meets, below, centres}
+use Rattle.network.proofs.Corners.{corners-union}
+use Rattle.grid.specs.declared.Axis.{Axis}
+use Rattle.grid.proofs.Places.{axis-line}
+use Rattle.intersection.specs.declared.Star.the-variants.{Centre}
+use Rattle.intersection.specs.Star.{starOf}
+use Rattle.job.specs.declared.Job.{Job}
+use Rattle.route.specs.declared.Route.{Route}
+use Rattle.route.specs.Route.{drawnOf, OnGrid, numbered, cornersOf, Tables}
+use Rattle.route.specs.Pits.{pitsOf}
+use Rattle.route.proofs.Corners.{on-numbered, pits-placed}
+use Rattle.plan.specs.declared.Head.{Head}
+use Rattle.plan.specs.Plan.{bookBytes, headOf, meetsOf, entriesAt}
+use Rattle.plan.proofs.Whole.{plan-written, plan-most}
+use Rattle.planner.specs.Verdict.{runsOf, numbersOf, centresOf}
+use Rattle.planner.specs.Outcome.{planOf}
+use Rattle.planner.specs.Held.{runsIn, Held}
+use Rattle.planner.specs.declared.star.Layout.{Layout}
+use Rattle.planner.specs.Stages.{LaidOut, Lined, drawnBy, ownOf, Heading}
+use Rattle.planner.proofs.Held.{length-held, length-plane, held-few, numbers-held}
+use Rattle.planner.proofs.Centred.{first-centre}
+use Rattle.planner.proofs.Fits.{few-lines}
+
+all-imp : {A : Type 0} (P Q : A → Type 0) → ((a : A) → P a → Q a) → (l : List A) → All P l → All Q l
+all-imp P Q f [] a = tt
+all-imp P Q f (x ∷ l) a = (f x (a .0), all-imp P Q f l (a .1))
+
+-- a grid's own lines are tables of them
+own-tables : (g : Grid) → Tables g (g .columns) (g .rows)
+own-tables g = record { column-at = λ i h. refl; row-at = λ j h. refl }
+
+-- the centre is one of the runs
+pub centre-listed : (j : Job) (c : ℕ) → starOf (centresOf (runsOf (runsIn j))) ≡ Centre c → c < j .count
+centre-listed j c e = go (centresOf (runsOf (runsIn j))) refl e
+  where
+    go : (l : List ℕ) → centresOf (runsOf (runsIn j)) ≡ l → starOf l ≡ Centre c → c < j .count
+    go [] q s = absurd (let z : _≡_ {A = ℕ} 0 1 = cc in omega arith)
+    go (d ∷ rest) q s = let z : d ≡ c = cc in omega (arith, first-centre (runsOf (runsIn j)) d rest q .0, length-plane j)
+
+module _ (j : Job) (h : Held j) (laid : Layout) (L : LaidOut (runsOf (runsIn j)) laid) where
+  abbrev runs : List Run
+  runs = runsOf (runsIn j)
+
+  abbrev g : Grid
+  g = hanan (runsOf (runsIn j))
+
+  abbrev steps : List Route
+  steps = take (length (runsOf (runsIn j))) (laid .routes)
+
+  lines-few : (length (g .columns) ≤ 64) × (length (g .rows) ≤ 64)
+  lines-few = few-lines (runsIn j) (omega (arith, length-held j, held-few j h))
+
+  -- the first routes, as many as the job has runs
+  pub first-routes : take (j .count) (laid .routes) ≡ steps
+  first-routes = ap (λ n. take n (laid .routes)) (sym (length-plane j))
+
+  pub on-indexes : All (OnGrid numbered) (take (j .count) (laid .routes))
+  on-indexes =
+      subst (All (OnGrid numbered)) (sym first-routes)
+      (all-imp (OnGrid g) (OnGrid numbered) (λ r o. on-numbered g r (lines-few .0) (lines-few .1) o) steps (L .on-grid))
+
+  own-is : ownOf runs laid ≡ map (λ r. corners (drawnOf g r)) steps
+  own-is = map-map corners (drawnOf g) steps
+
+  -- ---- the head
+
+  union-own : unionLength g (ownOf runs laid) ≡ unionLength g (drawnBy runs laid)
+  union-own = corners-union g runs (drawnBy runs laid) (L .best .least .are-routes)
+
+  pub saved-below : laid .saved ≤ sum distance runs
+  saved-below = omega (arith, L .best .trench)
+
+  trench-is : sum distance runs - laid .saved ≡ unionLength g (ownOf runs laid)
+  trench-is = omega (arith, L .best .trench, union-own)
+
+  saved-is : laid .saved ≡ sum distance runs - unionLength g (ownOf runs laid)
+  saved-is = omega (arith, L .best .trench, union-own)
+
+  pits-are : pitsOf (map cornersOf (take (j .count) (laid .routes))) ≡ pitsOf (ownOf runs laid)
+  pits-are =
+      ap (λ l. pitsOf (map cornersOf l)) first-routes
+      ∙ sym (pits-placed g (lines-few .0) (lines-few .1) (g .columns) (g .rows) (own-tables g) steps (L .on-grid)) ∙ ap pitsOf (sym own-is)
+
+  -- the first centre's number
+  centre-is : (c : ℕ) → starOf (centresOf runs) ≡ Centre c
+      → getD (j .numbers) c 0 ≡ getD (numbersOf (runsIn j)) (getD (centres (meets g runs) (below (length runs))) 0 0) 0
+  unfolding centresOf
+  centre-is c e = numbers-held j h c ∙ ap (λ i. getD (numbersOf (runsIn j)) i 0) (go (centres (meets g runs) (below (length runs))) e)
+    where
+      go : (l : List ℕ) → starOf l ≡ Centre c → c ≡ getD l 0 0
+      go [] q = absurd (let z : _≡_ {A = ℕ} 0 1 = cc in omega arith)
+      go (d ∷ rest) q = cc
+
+  -- the figures of the head
+  pub head-is : (c total pits : ℕ) → starOf (centresOf runs) ≡ Centre c → total ≡ sum distance runs
+      → pits ≡ pitsOf (map cornersOf (take (j .count) (laid .routes))) → pits ≤ 4064
+      → _≡_ {A = Head}
+      (record {
+        job = j .number;
+        runs = j .count % 65536;
+        trench = total - laid .saved;
+        saved = laid .saved;
+        pits = pits % 65536;
+        centre = getD (j .numbers) c 0;
+      })
+      (headOf (j .number) (numbersOf (runsIn j)) runs (ownOf runs laid))
+  head-is c total pits s t p few =
+      let n : j .count % 65536 ≡ length runs = omega (arith, length-plane j, held-few j h) in
+      let u : total - laid .saved ≡ unionLength g (ownOf runs laid) = ap (λ x. x - laid .saved) t ∙ trench-is in
+      let o : pits % 65536 ≡ pitsOf (ownOf runs laid) = omega (arith, pits-are) in
+      λ i. record { job = j .number; runs = n i; trench = u i; saved = saved-is i; pits = o i; centre = centre-is c s i }
+
+  -- ---- the bytes
+
+  module _ (columns rows : Axis) (a : Lined runs columns rows) (ms : List ℕ) (m : (i : ℕ) → i < j .count → getD ms i 0 ≡ meetsOf runs i) (head : Head)
+      (e : head ≡ headOf (j .number) (numbersOf (runsIn j)) runs (ownOf runs laid)) where
+    lines-held : Tables g (columns .lines) (rows .lines)
+    lines-held =
+        record {
+          column-at = axis-line columns (g .columns) (a .columns-are);
+          row-at = axis-line rows (g .rows) (a .rows-are);
+        }
+
+    pub bytes-are : bookBytes head (entriesAt (columns .lines) (rows .lines) (j .numbers) ms (take (j .count) (laid .routes)))
+        ≡ planOf (j .number) (runsIn j) (drawnBy runs laid)
+    bytes-are =
+        ap (λ l. bookBytes head (entriesAt (columns .lines) (rows .lines) (j .numbers) ms l)) first-routes
+        ∙ plan-written (j .number) (numbersOf (runsIn j)) runs (columns .lines) (rows .lines) (j .numbers) ms steps head (lines-few .0) (lines-few .1) lines-held
+        (L .on-grid) (e ∙ ap (headOf (j .number) (numbersOf (runsIn j)) runs) own-is)
+        (λ i k. (numbers-held j h i, m i (omega (arith, L .full, length-plane j))))
+
+    pub bytes-fit : length (bookBytes head (entriesAt (columns .lines) (rows .lines) (j .numbers) ms (take (j .count) (laid .routes)))) ≤ 36822
+    bytes-fit =
+        rw bytes-are
+        (plan-most (j .number) (numbersOf (runsIn j)) runs (drawnBy runs laid) (omega (arith, length-plane j, held-few j h)) (lines-few .0) (lines-few .1)
+        (L .best .least .are-routes))

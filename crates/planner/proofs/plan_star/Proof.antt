@@ -1,0 +1,84 @@
+-- The stages' promises are put together by the laws of `Planned`.
+use borrow.Author.Needs.{needs}
+use native.Mathlib.Omega.{arith}
+use Rattle.planner.specs.Verdict.{runsOf}
+use Rattle.planner.specs.Held.{runsIn}
+use Rattle.planner.proofs.Held.{held-few}
+use Rattle.planner.proofs.Writing.{centre-listed}
+use Rattle.planner.proofs.Planned.{star-surveyed, axes-lined, planned}
+use Rattle.planner.proofs.plan_star.Statement.{statement}
+use Rattle.planner.proofs.plan_star.Tie as tie
+use Rattle.planner.proofs.plan_star.Reads as reads
+use Rattle.planner.proofs.plan_star.Lts as lts
+use Rattle.planner.proofs.clear.clear.Reads as clear-reads
+use Rattle.planner.proofs.star.columns_of.Reads as columns-of-reads
+use Rattle.planner.proofs.star.lay.Reads as lay-reads
+use Rattle.planner.proofs.star.rows_of.Reads as rows-of-reads
+use Rattle.planner.proofs.star.write.Reads as write-reads
+
+columns-of-requires : tie.Need-columns-of-requires
+columns-of-requires c κs = held-few (c .before .before .args .j) (c .before .before .pre .0 .held)
+
+rows-of-requires : tie.Need-rows-of-requires
+rows-of-requires c κs = held-few (c .before .before .before .args .j) (c .before .before .before .pre .0 .held)
+
+mul-lay : tie.Need-mul-lay
+mul-lay c = let a = c .before .before .before .before .before .before in omega (arith, centre-listed (a .args .j) (a .args .centre) (a .pre .0 .star), held-few (a .args .j) (a .pre .0 .held))
+
+array-read-lay : tie.Need-array-read-lay
+array-read-lay c = let a = c .before .before .before .before .before .before in omega (arith, centre-listed (a .args .j) (a .args .centre) (a .pre .0 .star), held-few (a .args .j) (a .pre .0 .held))
+
+lay-requires : tie.Need-lay-requires
+lay-requires c κs =
+    let a = c .before .before .before .before .before .before .before in (
+      (
+        runsOf (runsIn (a .args .j)),
+        star-surveyed (a .args .j) (a .args .t2) (a .args .centre) (a .pre .0) (c .before .before .before .before .columns-of .result) (c .before .before .before .rows-of .result)
+            (c .before .before .before .before .columns-of .ensures) (c .before .before .before .rows-of .ensures),
+      ),
+      a .pre .1 .words,
+    )
+
+write-requires : tie.Need-write-requires
+write-requires c κs =
+    let a = c .before .before .before .before .before .before .before .before .before .before .before .before .before in
+    let x = c .before .before .before .before .before .before .before .before .before .before .columns-of in
+    let y = c .before .before .before .before .before .before .before .before .before .rows-of in (
+      a .pre .0,
+      c .before .before .before .before .before .lay .ensures .0 _ (star-surveyed (a .args .j) (a .args .t2) (a .args .centre) (a .pre .0) (x .result) (y .result) (x .ensures) (y .ensures)),
+      axes-lined (a .args .j) (a .args .t2) (a .args .centre) (a .pre .0) (x .result) (y .result) (x .ensures) (y .ensures),
+      a .pre .1 .bytes,
+    )
+
+clear-requires : tie.Need-clear-requires
+clear-requires c κs = omega (arith, c .before .before .before .before .before .before .before .before .before .lay .ensures .1 .size, c .before .before .before .before .before .before .before .before .before .before .before .before .before .before .before .before .before .pre .1 .words)
+
+same-length : tie.Need-same-length
+same-length c = search needs
+
+same-length-2 : tie.Need-same-length-2
+same-length-2 c = search needs
+
+returns : tie.Need-returns
+returns c =
+    let a = c .before .before .before .before .before .before .before .before .before .before .before .before .before .before .before .before .before .before .before .before in
+    let x = c .before .before .before .before .before .before .before .before .before .before .before .before .before .before .before .before .before .columns-of in
+    let y = c .before .before .before .before .before .before .before .before .before .before .before .before .before .before .before .before .rows-of in
+    let l = c .before .before .before .before .before .before .before .before .before .before .before .before .lay in
+    planned (a .args .j) (l .result) (l .ensures .0 _ (star-surveyed (a .args .j) (a .args .t2) (a .args .centre) (a .pre .0) (x .result) (y .result) (x .ensures) (y .ensures)))
+    _ _ _ _ _ _ (l .ensures .1) (c .before .before .before .before .before .before .write .ensures) (c .before .before .clear .ensures)
+
+pub plan-star-spec : {M : Type 1} → statement M
+plan-star-spec =
+    tie.close
+    (tie.spec
+    columns-of-requires
+    rows-of-requires
+    mul-lay
+    array-read-lay
+    lay-requires
+    write-requires
+    clear-requires
+    same-length
+    same-length-2
+    returns)

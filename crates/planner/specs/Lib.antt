@@ -1,0 +1,8 @@
+-- What the planner promises: the verdict on a call, and what a call answers and leaves.
+pub mod Verdict
+pub mod Places
+pub mod Outcome
+pub mod Surveyed
+pub mod Held
+pub mod Stages
+pub mod Coordinates

@@ -1,0 +1,10 @@
+-- The laws of routes on lines, by topic.
+pub mod Lists
+pub mod Steps
+pub mod Lanes
+pub mod Turns
+pub mod Walk
+pub mod Distinct
+pub mod Corners
+pub mod Marks
+pub mod Few

@@ -1,0 +1,51 @@
+-- Lists of routes, as loops pass them: what holds of all, and one more at the end.
+use mathlib.Core.Path.{_≡_, refl, sym, ap, _∙_}
+use mathlib.Core.List.{List, [], _∷_, _++_, map, map-append, flatten, append-assoc, append-nil}
+use Prim.Native.Nat.{ℕ, zero, suc, _+_, _<_}
+use native.Mathlib.Nat.{not-suc-le-zero}
+use native.Mathlib.Numerals.{add-one}
+use native.Mathlib.Omega.{arith}
+use lib.ListN.{length, getD, take}
+use lib.Seq.{take-suc}
+use Rattle.network.specs.Lists.{All}
+
+-- what holds of the first n holds of each of them
+pub all-at : {A : Type 0} (P : A → Type 0) (n : ℕ) (l : List A) (i : ℕ) (d : A) → All P (take n l) → i < n → i < length l → P (getD l i d)
+all-at P zero l i d a h k = absurd (not-suc-le-zero h)
+all-at P (suc n) [] i d a h k = absurd (not-suc-le-zero k)
+all-at P (suc n) (x ∷ l) zero d a h k = a .0
+all-at P (suc n) (x ∷ l) (suc i) d a h k = all-at P n l i d (a .1) (omega arith) (omega arith)
+
+-- what holds of all in turn holds of what they are mapped to
+pub all-map : {A B : Type 0} (P : A → Type 0) (Q : B → Type 0) (f : A → B) → ((a : A) → P a → Q (f a)) → (l : List A) → All P l → All Q (map f l)
+all-map P Q f h [] a = tt
+all-map P Q f h (x ∷ l) a = (h x (a .0), all-map P Q f h l (a .1))
+
+-- equal at each, equal mapped
+pub map-cong : {A B : Type 0} (P : A → Type 0) (f g : A → B) → ((a : A) → P a → f a ≡ g a) → (l : List A) → All P l → map f l ≡ map g l
+map-cong P f g h [] a = refl
+map-cong P f g h (x ∷ l) a = cc (h x (a .0), map-cong P f g h l (a .1))
+
+-- one more, at the end
+pub map-take : {A B : Type 0} (f : A → B) (l : List A) (i : ℕ) (d : A) → i < length l → map f (take (i + 1) l) ≡ map f (take i l) ++ f (getD l i d) ∷ []
+map-take f l i d h = rw (add-one, take-suc l i d h) (map-append f (take i l) (getD l i d ∷ []))
+
+pub flatten-last : {A : Type 0} (ls : List (List A)) (l : List A) → flatten (ls ++ l ∷ []) ≡ flatten ls ++ l
+unfolding flatten
+flatten-last [] l = append-nil l
+flatten-last (k ∷ ls) l = ap (λ m. k ++ m) (flatten-last ls l) ∙ sym (append-assoc k (flatten ls) l)
+
+-- joining mapped lists is mapping the joined list, and what holds of all their elements holds of it
+pub flatten-map : {A B : Type 0} (f : A → B) (ls : List (List A)) → flatten (map (map f) ls) ≡ map f (flatten ls)
+unfolding flatten
+flatten-map f [] = refl
+flatten-map f (l ∷ ls) = rw (map-append f l (flatten ls), flatten-map f ls)
+
+pub flatten-all : {A : Type 0} (P : A → Type 0) (ls : List (List A)) → All (All P) ls → All P (flatten ls)
+unfolding flatten
+flatten-all P [] a = tt
+flatten-all {A} P (l ∷ ls) a = join l (a .0) (flatten-all P ls (a .1))
+  where
+    join : (k : List A) → All P k → All P (flatten ls) → All P (k ++ flatten ls)
+    join [] b c = c
+    join (x ∷ k) b c = (b .0, join k (b .1) c)

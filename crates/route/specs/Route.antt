@@ -1,0 +1,88 @@
+-- A route as the code holds it, steps from line to line, and the route of the network that it draws. Lines are named by their indexes;
+-- decimetres are looked up where a corner is written.
+use mathlib.Core.Path.{_≡_, refl, _∙_}
+use mathlib.Core.Bool.{Bool, true, false, cond}
+use mathlib.Core.List.{List, [], _∷_, map}
+use mathlib.Core.Logic.{_⊎_, inl, inr}
+use Prim.Native.Nat.{ℕ, zero, suc, _≤_, _<_}
+use native.Mathlib.Nat.{eq-or-lt-of-le}
+use native.Mathlib.Omega.{arith}
+use lib.ListN.{length, getD, take, length-append, List·getD-append}
+use lib.Seq.{getD-at}
+use lib.Dec.{eqb}
+use Rattle.network.specs.Plane.{Point}
+use Rattle.network.specs.Grid.{Grid, Rising}
+use Rattle.network.specs.Graph.{below}
+use Rattle.network.specs.Steps.{Dir, hor, ver, steps, Lane, forth, back, Fits, drawn}
+use Rattle.network.specs.Route.{Route as Points}
+use Rattle.network.specs.Corners.{corners}
+use Rattle.route.specs.declared.Route.{Route}
+
+-- a step of 0 goes along the row, any other along the column
+abbrev pub dirOf : ℕ → Dir
+dirOf d = cond (eqb d 0) hor ver
+
+-- the step list of a route
+unfoldable pub stepsOf : Route → List Dir
+stepsOf r = map dirOf (take (r .count) (r .steps))
+
+-- n steps from line a, to higher indexes or to lower ones
+abbrev pub lane : Bool → ℕ → ℕ → Lane
+lane true a n = forth a n
+lane false a n = back a n
+
+-- the columns and the rows that a route passes
+abbrev pub columnsOf : Route → Lane
+columnsOf r = lane (r .right) (r .start .column) (steps hor (stepsOf r))
+
+abbrev pub rowsOf : Route → Lane
+rowsOf r = lane (r .up) (r .start .row) (steps ver (stepsOf r))
+
+-- the route on a grid, with all its vertices
+abbrev pub drawnOf : Grid → Route → Points
+drawnOf g r = drawn g (columnsOf r) (rowsOf r) (stepsOf r)
+
+-- the route's lines are lines of the grid
+pub record OnGrid (g : Grid) (r : Route) : Type 0 where
+  pub held : r .count ≤ 128
+  pub columns-fit : Fits (g .columns) (columnsOf r)
+  pub rows-fit : Fits (g .rows) (rowsOf r)
+
+-- ---- the grid of indexes
+
+-- the numbers below n are n, each stands at its own index, and so they rise
+pub length-below : (n : ℕ) → length (below n) ≡ n
+length-below zero = refl
+length-below (suc n) = length-append (below n) (n ∷ []) ∙ omega (arith, length-below n)
+
+pub below-at : (n i : ℕ) → i < n → getD (below n) i 0 ≡ i
+below-at zero i h = omega arith
+below-at (suc n) i h = go (eq-or-lt-of-le h) (below-at n i)
+  where
+    go : (suc i ≡ suc n) ⊎ (suc i < suc n) → (i < n → getD (below n) i 0 ≡ i) → getD (below (suc n)) i 0 ≡ i
+    go (inl e) ih = getD-at (below n) n [] 0 i (omega (arith, length-below n)) ∙ omega arith
+    go (inr k) ih = List·getD-append (below n) (n ∷ []) 0 i (omega (arith, length-below n)) ∙ ih (omega arith)
+
+pub below-rises : (n : ℕ) → Rising (below n)
+below-rises n i h =
+    let k : suc i < n = omega (arith, length-below n) in
+    omega (arith, below-at n i (omega arith), below-at n (suc i) k)
+
+-- 64 columns and 64 rows ("at most 64 of each", 01), each at its own index: its points are vertices named by the indexes of their lines
+unfoldable pub numbered : Grid
+numbered = record { columns = below 64; rows = below 64; columns-rise = below-rises 64; rows-rise = below-rises 64 }
+
+-- a route's corners, in line indexes
+unfoldable pub cornersOf : Route → Points
+cornersOf r = corners (drawnOf numbered r)
+
+-- ---- from indexes to points
+
+-- the point of a vertex that is given in line indexes, looked up in tables of the columns and the rows
+abbrev pub placed : List ℕ → List ℕ → Point → Point
+placed columns rows v = record { x = getD columns (v .x) 0; y = getD rows (v .y) 0 }
+
+-- the tables begin with the lines of the grid
+pub record Tables (g : Grid) (columns rows : List ℕ) : Type 0 where
+  pub column-at : (i : ℕ) → i < length (g .columns) → getD columns i 0 ≡ getD (g .columns) i 0
+  pub row-at : (j : ℕ) → j < length (g .rows) → getD rows j 0 ≡ getD (g .rows) j 0

@@ -1,0 +1,72 @@
+-- One axis in two countings: by steps from the centre's first line, as the code counts, and by numbers in the centre's view, as `sharing` counts.
+-- The view counts the n lines forth or, where the centre goes back, from the last one.
+use mathlib.Core.Path.{_≡_, refl, sym, _∙_}
+use mathlib.Core.Bool.{Bool, true, false, _&&_}
+use Prim.Native.Nat.{ℕ, suc, _+_, _-_, _≤_, _<_, min, max}
+use native.Mathlib.Omega.{arith}
+use native.Mathlib.Decide.{decLt}
+use lib.Dec.{leb, ltb}
+use borrow.Author.Tests.{leb-true, le-leb, ltb-true, lt-ltb, le-ltb}
+use Rattle.network.specs.Plane.{gap}
+use Rattle.network.proofs.Tests.{and-split, and-join, same-test}
+use Rattle.sharing.specs.View.{index, lower}
+use Rattle.table.specs.Side.{covers}
+use Rattle.table.specs.Frame.{lineOf, lowerOf, ahead}
+use Rattle.table.proofs.Lines.{line-back, line-forth, lower-back, lower-forth}
+
+-- by cases on the way that the centre goes
+way : {A : Type 0} (p q : ℕ) → (q < p → ltb q p ≡ true → A) → (p ≤ q → ltb q p ≡ false → A) → A
+way {A} p q back forth = go (decLt q p)
+  where
+    go : Dec (q < p) → A
+    go (yes h) = back h (lt-ltb q p h)
+    go (no h) = let l : p ≤ q = omega arith in forth l (le-ltb q p l)
+
+within : (a b c : ℕ) → leb a b && leb b c ≡ true → (a ≤ b) × (b ≤ c)
+within a b c t = let (x, y) = and-split (leb a b) (leb b c) t in (leb-true a b x, leb-true b c y)
+
+between : (a b c : ℕ) → a ≤ b → b ≤ c → leb a b && leb b c ≡ true
+between a b c h k = and-join (leb a b) (leb b c) (le-leb a b h) (le-leb b c k)
+
+-- counted back, the lower end is the higher one
+min-back : (n a b : ℕ) → a < n → b < n → min (n - suc a) (n - suc b) ≡ n - suc (max a b)
+min-back n a b ha hb = omega arith
+
+max-back : (n a b : ℕ) → a < n → b < n → max (n - suc a) (n - suc b) ≡ n - suc (min a b)
+max-back n a b ha hb = omega arith
+
+turned : (n a b p i : ℕ) → a < n → b < n → p < n → i ≤ p
+    → leb a (p - i) && leb (p - i) b ≡ leb (n - suc b) (n - suc p + i) && leb (n - suc p + i) (n - suc a)
+turned n a b p i ha hb hp hi =
+    same-test (leb a (p - i) && leb (p - i) b) (leb (n - suc b) (n - suc p + i) && leb (n - suc p + i) (n - suc a))
+    (λ t. let (x, y) = within a (p - i) b t in between (n - suc b) (n - suc p + i) (n - suc a) (omega arith) (omega arith))
+    (λ t. let (x, y) = within (n - suc b) (n - suc p + i) (n - suc a) t in between a (p - i) b (omega arith) (omega arith))
+
+module _ (n p q : ℕ) (hp : p < n) (hq : q < n) where
+  -- how many steps the centre goes
+  pub axis-size : index (ltb q p) n q - index (ltb q p) n p ≡ gap p q
+  unfolding gap
+  axis-size = way p q (λ h e. rw e (omega arith)) (λ h e. rw e (omega arith))
+
+  pub axis-lower : (i : ℕ) → i < gap p q → lowerOf p q i ≡ lower (ltb q p) n (index (ltb q p) n p + i)
+  unfolding gap
+  axis-lower i h = way p q (λ l e. rw (e, lower-back p q i l) (omega arith)) (λ l e. rw (e, lower-forth p q i l))
+
+  -- a box has a line
+  pub axis-covers : (i a b : ℕ) → i ≤ gap p q → a < n → b < n
+      → covers a b (lineOf p q i)
+      ≡ leb (min (index (ltb q p) n a) (index (ltb q p) n b)) (index (ltb q p) n p + i)
+      && leb (index (ltb q p) n p + i) (max (index (ltb q p) n a) (index (ltb q p) n b))
+  unfolding gap covers
+  axis-covers i a b h ha hb =
+      way p q
+      (λ l e. rw (e, line-back p q i l, min-back n a b ha hb, max-back n a b ha hb) (turned n (min a b) (max a b) p i (omega arith) (omega arith) hp (omega arith)))
+      (λ l e. rw (e, line-forth p q i l))
+
+-- a run goes ahead
+pub axis-ahead : (f : Bool) (n a b : ℕ) → a < n → b < n → ahead f a b ≡ ltb (index f n a) (index f n b)
+unfolding ahead
+axis-ahead false n a b ha hb = refl
+axis-ahead true n a b ha hb =
+    same-test (ltb b a) (ltb (n - suc a) (n - suc b)) (λ t. let h = ltb-true b a t in lt-ltb (n - suc a) (n - suc b) (omega arith))
+    (λ t. let h = ltb-true (n - suc a) (n - suc b) t in lt-ltb b a (omega arith))

@@ -1,0 +1,97 @@
+-- Laws of the frame's lines: counting forth and back, and the lines made of the sets and lengths of an axis.
+use mathlib.Core.Path.{_≡_, refl, _∙_}
+use mathlib.Core.List.{List}
+use Prim.Native.Nat.{ℕ, zero, suc, _+_, _-_, _≤_, _<_}
+use native.Mathlib.Omega.{arith}
+use native.Mathlib.Decide.{decLt}
+use lib.Bits.{bitAnd}
+use lib.ListN.{length, getD, set}
+use lib.Seq.{getD-set-same, getD-set-other}
+use borrow.Author.Tests.{lt-ltb, le-ltb}
+use Rattle.network.specs.Plane.{gap}
+use Rattle.table.specs.declared.side.Side.{Side}
+use Rattle.table.specs.declared.frame.Line.{Line}
+use Rattle.table.specs.Side.{firstOf, secondOf, leavesOn}
+use Rattle.table.specs.Frame.{lineOf, lowerOf, blank, frameLine, FrameLines}
+
+-- ---- counting
+
+-- back, where the second position is lower, and forth
+pub line-back : (p q i : ℕ) → q < p → lineOf p q i ≡ p - i
+unfolding lineOf
+line-back p q i h = rw (lt-ltb q p h)
+
+pub line-forth : (p q i : ℕ) → p ≤ q → lineOf p q i ≡ p + i
+unfolding lineOf
+line-forth p q i h = rw (le-ltb q p h)
+
+pub lower-back : (p q i : ℕ) → q < p → lowerOf p q i ≡ p - suc i
+unfolding lowerOf
+lower-back p q i h = rw (lt-ltb q p h)
+
+pub lower-forth : (p q i : ℕ) → p ≤ q → lowerOf p q i ≡ p + i
+unfolding lowerOf
+lower-forth p q i h = rw (le-ltb q p h)
+
+-- ---- the lines of a frame
+
+pub gap-lt : (n p q : ℕ) → p < n → q < n → gap p q < n
+unfolding gap
+gap-lt n p q h k = omega arith
+
+-- what is computed at the first line, and at line i, is the frame's line
+pub first-line : (on len : ℕ → ℕ) (p q i here : ℕ) → i ≡ 0 → here ≡ lineOf p q i
+    → record { on = on here; into = 0; len = 0 } ≡ frameLine on len p q i
+unfolding frameLine
+first-line on len p q zero here e h = rw h
+first-line on len p q (suc i) here e h = absurd (omega arith)
+
+pub next-line : (on len : ℕ → ℕ) (p q i here before low : ℕ) → (i ≡ 0 → ⊥) → here ≡ lineOf p q i → before ≡ lineOf p q (i - 1) → low ≡ lowerOf p q (i - 1)
+    → record { on = on here; into = bitAnd (on here) (on before); len = len low } ≡ frameLine on len p q i
+unfolding frameLine
+next-line on len p q zero here before low n h k l = absurd (n refl)
+next-line on len p q (suc i) here before low n h k l =
+    let e : suc i - 1 ≡ i = omega arith in
+    rw (h, k, l, e)
+
+-- an array that holds f below i, with f i stored at i
+pub set-next : {A : Type 0} (t : List A) (i : ℕ) (v d : A) (f : ℕ → A) → i < length t → ((j : ℕ) → j < i → getD t j d ≡ f j) → v ≡ f i
+    → (j : ℕ) → j < i + 1 → getD (set t i v) j d ≡ f j
+set-next t i v d f h old e j l = go (decLt j i)
+  where
+    go : Dec (j < i) → getD (set t i v) j d ≡ f j
+    go (yes k) = getD-set-other t i j v d (λ z. omega arith) ∙ old j k
+    go (no k) = let z : j ≡ i = omega arith in rw z (getD-set-same t i v d h ∙ e)
+
+-- ---- lines within the axis
+
+pub line-lt : (n p q i : ℕ) → p < n → q < n → i ≤ gap p q → lineOf p q i < n
+unfolding gap
+line-lt n p q i h k l = go (decLt q p)
+  where
+    go : Dec (q < p) → lineOf p q i < n
+    go (yes e) = omega (arith, line-back p q i e)
+    go (no e) = omega (arith, line-forth p q i (omega arith))
+
+pub lower-lt : (n p q i : ℕ) → p < n → q < n → i < gap p q → suc (lowerOf p q i) < n
+unfolding gap
+lower-lt n p q i h k l = go (decLt q p)
+  where
+    go : Dec (q < p) → suc (lowerOf p q i) < n
+    go (yes e) = omega (arith, lower-back p q i e)
+    go (no e) = omega (arith, lower-forth p q i (omega arith))
+
+-- the frame reads the sets at the axis' lines alone
+pub frame-same : (f g len : ℕ → ℕ) (n p q i : ℕ) → p < n → q < n → i ≤ gap p q → ((j : ℕ) → j < n → f j ≡ g j)
+    → frameLine f len p q i ≡ frameLine g len p q i
+unfolding frameLine
+frame-same f g len n p q zero h k l e = rw (e (lineOf p q 0) (line-lt n p q 0 h k l))
+frame-same f g len n p q (suc i) h k l e =
+    rw (e (lineOf p q (suc i)) (line-lt n p q (suc i) h k l), e (lineOf p q i) (line-lt n p q i h k (omega arith)))
+
+-- the lines made of the sets at the axis' lines are those of the centre's frame
+pub lines-are : (s : Side) (n leaves c p q : ℕ) (on : List ℕ) (l : List Line) → p ≡ firstOf s c → q ≡ secondOf s c → p < 64 → q < 64
+    → ((i : ℕ) → i < 64 → getD on i 0 ≡ leavesOn s n leaves i)
+    → ((i : ℕ) → i ≤ gap p q → getD l i blank ≡ frameLine (λ j. getD on j 0) (λ j. getD (s .len) j 0) p q i)
+    → FrameLines s n leaves c l
+lines-are s n leaves c p q on l e f h k sets made = rw (← e, ← f) (λ i b. made i b ∙ frame-same _ _ _ 64 p q i h k b sets)

@@ -1,0 +1,158 @@
+-- From the arrays of a job to its sides, its group and its star: what the functions of this crate promise, put together. So the table that `fill` leaves
+-- is exact for the star, `figure_of` answers the star's figure, and `trace_of` its traced moves.
+use mathlib.Core.Path.{_≡_, refl, sym, ap, _∙_, subst}
+use mathlib.Core.Bool.{true}
+use mathlib.Core.List.{List}
+use Prim.Native.Nat.{ℕ, suc, pred, _+_, _-_, _*_, _≤_, _<_}
+use native.Mathlib.Omega.{arith}
+use native.Mathlib.Decide.{decLt}
+use lib.ListN.{length, getD}
+use Rattle.network.specs.Grid.{Rising, Grid}
+use Rattle.network.specs.Route.{Listed, Vertex}
+use Rattle.network.specs.Hanan.{distinct, hanan}
+use Rattle.network.specs.Plane.{Run}
+use Rattle.network.specs.Graph.{runAt, meets, isCentre, below}
+use Rattle.network.specs.Boxes.{Placed}
+use Rattle.network.specs.Steps.{Dir, hor, ver}
+use Rattle.sharing.specs.Table.{Exact, figure}
+use Rattle.sharing.specs.Trace.{trace}
+use Rattle.sharing.specs.Walk.{Traced}
+use Rattle.sharing.specs.Star.{starOf, Centred}
+use Rattle.sharing.specs.View.{lines}
+use Rattle.sharing.proofs.Trace.{traced}
+use Rattle.sharing.proofs.Runs.{Indexed, indexed-shows, facing-rises}
+use Rattle.sharing.proofs.Theorem.{star-centred}
+use Rattle.grid.specs.declared.Axis.{Axis}
+use Rattle.grid.specs.Tables.{table, padded}
+use Rattle.grid.specs.Runs.{runOf, runsOf}
+use Rattle.grid.specs.Lines.{values, axisOf, indexOf, lengthAt}
+use Rattle.grid.proofs.Tables.{length-table, getD-table, getD-padded, getD-behind}
+use Rattle.grid.proofs.Places.{position-line, axis-lengths}
+use Rattle.grid.proofs.Values.{few-lines}
+use Rattle.grid.proofs.Hanan.{length-runs, run-at, columns-are, rows-are, axis-columns, axis-rows, run-placed, length-within}
+use Rattle.intersection.specs.Sets.{has}
+use Rattle.table.specs.declared.side.Side.{Side}
+use Rattle.table.specs.declared.frame.Group.{Group}
+use Rattle.table.specs.Side.{Sided, firstOf, secondOf}
+use Rattle.table.specs.Side
+use Rattle.table.specs.Frame.{Grouped}
+use Rattle.table.specs.Rule.{tableOf, Ruled, figureOf, Fit}
+use Rattle.table.specs.Walk.{walked}
+use Rattle.table.proofs.Drawn.{ruled-exact, figure-drawn, walked-trace}
+use Rattle.table.proofs.Star.{sideAt, firsts, seconds, Surveyed, viewOf, boxOf, group-drawn, group-fit}
+
+-- ---- one axis
+
+module _ (a : Axis) (l first second : List ℕ) (n : ℕ) (s : Side) (e : a ≡ axisOf l) (r : Rising l) (z : Sided a first second n s) where
+  -- a position is that of the value's line
+  first-line : (k : ℕ) → k < n → Listed l (getD first k 0) → (firstOf s k < length l) × (getD l (firstOf s k) 0 ≡ getD first k 0)
+  first-line k h v = rw (z .firsts k h) (position-line a l e r (getD first k 0) v)
+
+  second-line : (k : ℕ) → k < n → Listed l (getD second k 0) → (secondOf s k < length l) × (getD l (secondOf s k) 0 ≡ getD second k 0)
+  second-line k h v = rw (z .seconds k h) (position-line a l e r (getD second k 0) v)
+
+  len-is : s .len ≡ padded 64 (table (lengthAt l) (pred (length l)))
+  len-is = z .lengths ∙ ap (padded 64) (axis-lengths a l e)
+
+  -- the lengths of the edges
+  length-at : (i : ℕ) → suc i < length l → getD (s .len) i 0 ≡ getD l (suc i) 0 - getD l i 0
+  length-at i h =
+      ap (λ t. getD t i 0) len-is ∙ getD-padded 64 (table (lengthAt l) (pred (length l))) i (omega (arith, length-table (lengthAt l) (pred (length l))))
+      ∙ getD-table (lengthAt l) (pred (length l)) i 0 (omega arith)
+
+  length-le : (m : ℕ) → ((i : ℕ) → suc i < length l → lengthAt l i ≤ m) → (i : ℕ) → getD (s .len) i 0 ≤ m
+  length-le m h i = go (decLt (suc i) (length l))
+    where
+      go : Dec (suc i < length l) → getD (s .len) i 0 ≤ m
+      go (yes k) = rw (length-at i k) (h i k)
+      go (no k) =
+          let b : getD (s .len) i 0 ≡ 0 = ap (λ t. getD t i 0) len-is ∙ getD-behind 64 (table (lengthAt l) (pred (length l))) i (omega (arith, length-table (lengthAt l) (pred (length l)))) in
+          omega arith
+
+-- ---- the job
+
+module _ (x1 y1 x2 y2 : List ℕ) (n : ℕ) (few : n ≤ 32) (a b : Axis) (ea : a ≡ axisOf (distinct (values x1 x2 n))) (eb : b ≡ axisOf (distinct (values y1 y2 n)))
+    (xs ys : Side) (sx : Sided a x1 x2 n xs) (sy : Sided b y1 y2 n ys) where
+  abbrev runs : List Run
+  runs = runsOf x1 y1 x2 y2 n
+
+  abbrev grid : Grid
+  grid = hanan (runsOf x1 y1 x2 y2 n)
+
+  size : length runs ≡ n
+  size = length-runs x1 y1 x2 y2 n
+
+  first-x : (k : ℕ) → k < n → (firstOf xs k < length (grid .columns)) × (getD (grid .columns) (firstOf xs k) 0 ≡ getD x1 k 0)
+  first-x k h = first-line a (grid .columns) x1 x2 n xs (axis-columns x1 y1 x2 y2 n a ea) (grid .columns-rise) sx k h (run-placed x1 y1 x2 y2 n k h .first-vertex .column)
+
+  first-y : (k : ℕ) → k < n → (firstOf ys k < length (grid .rows)) × (getD (grid .rows) (firstOf ys k) 0 ≡ getD y1 k 0)
+  first-y k h = first-line b (grid .rows) y1 y2 n ys (axis-rows x1 y1 x2 y2 n b eb) (grid .rows-rise) sy k h (run-placed x1 y1 x2 y2 n k h .first-vertex .row)
+
+  second-x : (k : ℕ) → k < n → (secondOf xs k < length (grid .columns)) × (getD (grid .columns) (secondOf xs k) 0 ≡ getD x2 k 0)
+  second-x k h = second-line a (grid .columns) x1 x2 n xs (axis-columns x1 y1 x2 y2 n a ea) (grid .columns-rise) sx k h (run-placed x1 y1 x2 y2 n k h .second-vertex .column)
+
+  second-y : (k : ℕ) → k < n → (secondOf ys k < length (grid .rows)) × (getD (grid .rows) (secondOf ys k) 0 ≡ getD y2 k 0)
+  second-y k h = second-line b (grid .rows) y1 y2 n ys (axis-rows x1 y1 x2 y2 n b eb) (grid .rows-rise) sy k h (run-placed x1 y1 x2 y2 n k h .second-vertex .row)
+
+  -- there are at most 64 lines, so the positions are below 64
+  few-columns : length (grid .columns) ≤ 64
+  few-columns = rw (columns-are x1 y1 x2 y2 n) (omega (arith, few-lines x1 x2 n))
+
+  few-rows : length (grid .rows) ≤ 64
+  few-rows = rw (rows-are x1 y1 x2 y2 n) (omega (arith, few-lines y1 y2 n))
+
+  pub placed-x : Side.Placed xs n
+  placed-x k h = (omega (arith, first-x k h .0, few-columns), omega (arith, second-x k h .0, few-columns))
+
+  pub placed-y : Side.Placed ys n
+  placed-y k h = (omega (arith, first-y k h .0, few-rows), omega (arith, second-y k h .0, few-rows))
+
+  -- no edge is longer than the coordinates allow
+  pub short : (m : ℕ) → ((i : ℕ) → i < n → (getD x1 i 0 ≤ m) × (getD x2 i 0 ≤ m)) → ((i : ℕ) → i < n → (getD y1 i 0 ≤ m) × (getD y2 i 0 ≤ m))
+      → (d : Dir) (i : ℕ) → getD (sideAt xs ys d .len) i 0 ≤ m
+  short m hx hy hor =
+      length-le a (grid .columns) x1 x2 n xs (axis-columns x1 y1 x2 y2 n a ea) (grid .columns-rise) sx m (rw (columns-are x1 y1 x2 y2 n) (length-within x1 x2 n m hx))
+  short m hx hy ver =
+      length-le b (grid .rows) y1 y2 n ys (axis-rows x1 y1 x2 y2 n b eb) (grid .rows-rise) sy m (rw (rows-are x1 y1 x2 y2 n) (length-within y1 y2 n m hy))
+
+  -- the sides hold the job
+  pub surveyed : (c leaves : ℕ) → ((k : ℕ) → k < n → has leaves k ≡ meets grid runs c k) → Surveyed grid runs xs ys c leaves
+  surveyed c leaves h =
+      record {
+        few = rw size few;
+        first-at = λ k l. let m : k < n = rw size at l in rw (run-at x1 y1 x2 y2 n k m)
+            (record { fits = elim [ hor ↦ first-x k m .0 | ver ↦ first-y k m .0 ]; at-line = elim [ hor ↦ first-x k m .1 | ver ↦ first-y k m .1 ] });
+        second-at = λ k l. let m : k < n = rw size at l in rw (run-at x1 y1 x2 y2 n k m)
+            (record { fits = elim [ hor ↦ second-x k m .0 | ver ↦ second-y k m .0 ]; at-line = elim [ hor ↦ second-x k m .1 | ver ↦ second-y k m .1 ] });
+        lengths = elim [
+          | hor ↦ length-at a (grid .columns) x1 x2 n xs (axis-columns x1 y1 x2 y2 n a ea) (grid .columns-rise) sx
+          | ver ↦ length-at b (grid .rows) y1 y2 n ys (axis-rows x1 y1 x2 y2 n b eb) (grid .rows-rise) sy
+        ];
+        is-leaf = λ k l. h k (rw size at l);
+      }
+
+-- ---- the star
+
+-- the centre of a job that is one star is centred in the view that the sides give
+pub surveyed-centred : (grid : Grid) (runs : List Run) (xs ys : Side) (c leaves : ℕ) → Surveyed grid runs xs ys c leaves → c < length runs
+    → isCentre (meets grid runs) (below (length runs)) c ≡ true → Centred (viewOf grid xs ys c) runs (boxOf grid xs ys c) c
+surveyed-centred grid runs xs ys c leaves S h star =
+    star-centred (viewOf grid xs ys c) runs (boxOf grid xs ys c) c star h
+    (λ k l. indexed-shows (viewOf grid xs ys c) (runAt runs k) (firsts xs ys k) (seconds xs ys k) (S .first-at k l) (S .second-at k l))
+    (facing-rises grid (firsts xs ys c) (seconds xs ys c) (λ d. S .first-at c h .fits d) (λ d. S .second-at c h .fits d))
+
+module _ (grid : Grid) (runs : List Run) (xs ys : Side) (c leaves : ℕ) (S : Surveyed grid runs xs ys c leaves)
+    (C : Centred (viewOf grid xs ys c) runs (boxOf grid xs ys c) c) (g : Group) (G : Grouped xs ys (length runs) c leaves g) (words : List ℕ) (R : Ruled g words) where
+  -- THEOREM: the table that `fill` leaves is exact for the star
+  pub star-exact : Exact (starOf (viewOf grid xs ys c) runs (boxOf grid xs ys c) c) (tableOf (g .w) words)
+  star-exact = ruled-exact g _ (group-drawn grid runs xs ys c leaves g S G C) words R
+
+  -- what `figure_of` answers is the star's figure
+  pub star-figure : figureOf g words ≡ figure (starOf (viewOf grid xs ys c) runs (boxOf grid xs ys c) c) (tableOf (g .w) words)
+  star-figure = figure-drawn g _ (group-drawn grid runs xs ys c leaves g S G C) words
+
+  -- THEOREM: the moves that `trace_of` answers are traced in it
+  pub star-traced : Traced (starOf (viewOf grid xs ys c) runs (boxOf grid xs ys c) c) (tableOf (g .w) words) (walked g words)
+  star-traced =
+      rw (walked-trace g _ (group-drawn grid runs xs ys c leaves g S G C) words star-exact)
+      (traced (starOf (viewOf grid xs ys c) runs (boxOf grid xs ys c) c) (tableOf (g .w) words) star-exact)

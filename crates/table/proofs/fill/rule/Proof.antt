@@ -1,0 +1,91 @@
+-- Each return is a case of the rule.
+use mathlib.Core.Path.{_≡_, refl, sym, _∙_, ap₂}
+use Rattle.table.specs.Rule.{pair, allOf, stretchOf}
+use Rattle.table.proofs.Rule.{rule-free, rule-same, rule-cross}
+use borrow.Author.Needs.{needs}
+use Rattle.table.proofs.fill.rule.Statement.{statement}
+use Rattle.table.proofs.fill.rule.Tie as tie
+
+larger-requires : tie.Need-larger-requires
+larger-requires c κs = search needs
+
+larger-requires-2 : tie.Need-larger-requires-2
+larger-requires-2 c κs = search needs
+
+returns : tie.Need-returns
+returns c =
+    let l = c .before in
+    let a = l .before .before .args in
+    let e : l .larger2 .result ≡ allOf (a .along) (a .across) (a .start) = rw (l .larger2 .ensures, l .before .larger .ensures) in
+    ap₂ pair e refl ∙ sym (rule-free (a .along) (a .across) (a .start) (a .o) (a .len) (a .cross) (c .if1 .taken))
+
+plus-len-requires : tie.Need-plus-len-requires
+plus-len-requires c κs = search needs
+
+returns-2 : tie.Need-returns-2
+returns-2 c =
+    let l = c .before .before .before in
+    let a = l .before .before .args in
+    let e : l .larger2 .result ≡ allOf (a .along) (a .across) (a .start) = rw (l .larger2 .ensures, l .before .larger .ensures) in
+    ap₂ pair (rw (c .plus-len .ensures .0, e)) refl
+    ∙ sym (rule-same (a .along) (a .across) (a .start) (a .o) (a .len) (a .cross) (c .before .before .if1 .left) (c .before .if2 .taken))
+
+unless-own-requires : tie.Need-unless-own-requires
+unless-own-requires c κs = search needs
+
+unless-own-requires-2 : tie.Need-unless-own-requires-2
+unless-own-requires-2 c κs = search needs
+
+larger-requires-3 : tie.Need-larger-requires-3
+larger-requires-3 c κs = search needs
+
+larger-requires-4 : tie.Need-larger-requires-4
+larger-requires-4 c κs = search needs
+
+plus-len-requires-2 : tie.Need-plus-len-requires-2
+plus-len-requires-2 c κs = search needs
+
+if-own-requires : tie.Need-if-own-requires
+if-own-requires c κs = search needs
+
+plus-len-requires-3 : tie.Need-plus-len-requires-3
+plus-len-requires-3 c κs = search needs
+
+larger-requires-5 : tie.Need-larger-requires-5
+larger-requires-5 c κs = search needs
+
+larger-requires-6 : tie.Need-larger-requires-6
+larger-requires-6 c κs = search needs
+
+returns-3 : tie.Need-returns-3
+returns-3 c =
+    let x = c .before in
+    let m = x .before .before .before in
+    let n = m .before .before in
+    let l = n .before .before .before .before .before in
+    let a = l .before .before .args in
+    let e : l .larger2 .result ≡ allOf (a .along) (a .across) (a .start) = rw (l .larger2 .ensures, l .before .larger .ensures) in
+    let f : x .larger5 .result ≡ stretchOf (a .along) (a .across) (a .start) (a .o) (a .len)
+    = rw (x .larger5 .ensures, m .plus-len2 .ensures .0, m .before .larger4 .ensures, n .larger3 .ensures, n .before .unless-own2 .ensures .0, n .before .before .unless-own .ensures .0, x .before .plus-len3 .ensures .0, x .before .before .if-own .ensures .0) in
+    ap₂ pair (rw (c .larger6 .ensures, e, f)) f
+    ∙ sym (rule-cross (a .along) (a .across) (a .start) (a .o) (a .len) (a .cross) (n .before .before .before .before .if1 .left) (n .before .before .before .if2 .left))
+
+pub rule-spec : {M : Type 1} → statement M
+rule-spec =
+    tie.close
+    (tie.spec
+    larger-requires
+    larger-requires-2
+    returns
+    plus-len-requires
+    returns-2
+    unless-own-requires
+    unless-own-requires-2
+    larger-requires-3
+    larger-requires-4
+    plus-len-requires-2
+    if-own-requires
+    plus-len-requires-3
+    larger-requires-5
+    larger-requires-6
+    returns-3)

@@ -1,0 +1,5 @@
+-- What the contracts of `table` cite.
+pub mod Side
+pub mod Frame
+pub mod Rule
+pub mod Walk

@@ -1,0 +1,46 @@
+-- The runs of a job on one axis, by the positions of their points among the axis' lines, and the sets of leaves whose box has a line. "A run's box is
+-- the smallest upright rectangle holding its two points" (01, Lines, boxes, meeting).
+use mathlib.Core.Path.{_≡_}
+use mathlib.Core.Bool.{Bool, _&&_}
+use mathlib.Core.List.{List}
+use Prim.Native.Nat.{ℕ, pred, _<_, min, max}
+use lib.Dec.{leb}
+use lib.ListN.{getD}
+use Rattle.grid.specs.declared.Axis.{Axis}
+use Rattle.grid.specs.Tables.{table, padded}
+use Rattle.grid.specs.Lines.{indexOf, lengthAt}
+use Rattle.intersection.specs.Sets.{has, pack}
+use Rattle.table.specs.declared.side.Side.{Side}
+
+-- l holds the positions of n values among the first m lines
+abbrev pub PlacesOf : List ℕ → ℕ → List ℕ → ℕ → List ℕ → Type 0
+PlacesOf lines m values n l = (k : ℕ) → k < n → getD l k 0 ≡ indexOf lines m (getD values k 0)
+
+-- the side holds n runs with these values on the axis
+pub record Sided (axis : Axis) (first second : List ℕ) (n : ℕ) (s : Side) : Type 0 where
+  pub firsts : PlacesOf (axis .lines) (axis .count) first n (s .first)
+  pub seconds : PlacesOf (axis .lines) (axis .count) second n (s .second)
+  pub lengths : s .len ≡ padded 64 (table (lengthAt (axis .lines)) (pred (axis .count)))
+
+-- the positions of the first and of the second point of run k
+abbrev pub firstOf : Side → ℕ → ℕ
+firstOf s k = getD (s .first) k 0
+
+abbrev pub secondOf : Side → ℕ → ℕ
+secondOf s k = getD (s .second) k 0
+
+-- every position of the first n runs is that of one of 64 lines
+abbrev pub Placed : Side → ℕ → Type 0
+Placed s n = (k : ℕ) → k < n → (firstOf s k < 64) × (secondOf s k < 64)
+
+-- a box from position p to position q has line i
+unfoldable pub covers : ℕ → ℕ → ℕ → Bool
+covers p q i = leb (min p q) i && leb i (max p q)
+
+-- run k is a leaf, and its box has line i
+unfoldable pub leafOn : Side → ℕ → ℕ → ℕ → Bool
+leafOn s leaves i k = has leaves k && covers (firstOf s k) (secondOf s k) i
+
+-- the leaves whose box has line i, of n runs
+unfoldable pub leavesOn : Side → ℕ → ℕ → ℕ → ℕ
+leavesOn s n leaves i = pack (leafOn s leaves i) n

@@ -1,0 +1,198 @@
+// The table of best sharing: four words a vertex, row after row, in the lent work words.
+use crate::frame::Group;
+use crate::frame::Line;
+ghost use mathlib.Core.Path.{_≡_};
+ghost use Prim.Native.Nat.{ℕ, pred, _+_, _*_, _^_, _≤_, _<_, max};
+ghost use lib.ListN.{length, getD};
+ghost use Rattle.sharing.specs.Table.{plus};
+ghost use Rattle.table.specs.Rule.{edgeOf, unlessOwn, ifOwn, ruleOf, startOf, Ruled, figureOf, Fit, Beyond, four, intoOf, Near};
+
+// The edge along one direction that ends at a vertex: its two words, the set whose one member is its owner, and its length.
+pub struct Edge {
+    pub best: u32,
+    pub run: u32,
+    pub own: u32,
+    pub len: u32,
+}
+
+// The two words of an edge.
+pub struct Pair {
+    pub best: u32,
+    pub run: u32,
+}
+
+pub fn larger(a: u32, b: u32) -> u32
+    ensures { λ r. ⌜ r ≡ max a b ⌝ }
+{
+    if a < b { b } else { a }
+}
+
+// len more, but 0 stays 0.
+fn plus_len(x: u32, len: u32) -> u32
+    requires { ⌜ x + len < 2 ^ 32 ⌝ }
+    ensures { λ r. ⌜ (r ≡ plus x len) × (r ≤ x + len) ⌝ }
+{
+    if x == 0 { 0 } else { x + len }
+}
+
+// The best word, or 0 if the edge has the owner o.
+pub fn unless_own(e: Edge, o: u32) -> u32
+    ensures { λ r. ⌜ (r ≡ unlessOwn e o) × (r ≤ e .best) ⌝ }
+{
+    if e.own == o { 0 } else { e.best }
+}
+
+// The run word if the edge has the owner o, or 0.
+fn if_own(e: Edge, o: u32) -> u32
+    ensures { λ r. ⌜ (r ≡ ifOwn e o) × (r ≤ e .run) ⌝ }
+{
+    if e.own == o { e.run } else { 0 }
+}
+
+// The edge along d that ends at position p, by its line along and its line across: one AND gives the owner.
+pub fn edge_at(work: &[u32], p: usize, d: usize, along: Line, across: Line) -> Edge
+    requires { ⌜ (p * 4 + 3 < length (now work)) × (d < 2) × (p < 4096) ⌝ }
+    ensures { λ r. ⌜ r ≡ edgeOf (now (work .entry)) p d along across ⌝ }
+{
+    let i = p * 4 + d * 2;
+    Edge {
+        best: work[i],
+        run: work[i + 1],
+        own: across.on & along.into,
+        len: along.len,
+    }
+}
+
+// The words of an edge with the owner o and the length len, from the edges along and across that end where it begins.
+fn rule(along: Edge, across: Edge, start: u32, o: u32, len: u32, cross: u32) -> Pair
+    requires { ⌜ (along .best < 2 ^ 31) × (along .run < 2 ^ 31) × (across .best < 2 ^ 31) × (start < 2 ^ 31) × (len < 2 ^ 31) ⌝ }
+    ensures { λ r. ⌜ r ≡ ruleOf along across start o len cross ⌝ }
+{
+    let all = larger(larger(along.best, across.best), start);
+    if o == 0 {
+        return Pair { best: all, run: 0 };
+    }
+    if o & cross == 0 {
+        return Pair {
+            best: plus_len(all, len),
+            run: 0,
+        };
+    }
+    let new = larger(larger(unless_own(along, o), unless_own(across, o)), start);
+    let run = larger(plus_len(new, len), plus_len(if_own(along, o), len));
+    Pair {
+        best: larger(all, run),
+        run,
+    }
+}
+
+// 1 at the first position, where the walk starts.
+fn start_at(p: usize) -> u32
+    ensures { λ r. ⌜ (r ≡ startOf p) × (r ≤ 1) ⌝ }
+{
+    if p == 0 { 1 } else { 0 }
+}
+
+// The words of the edge into position p from the one stride before it, on line s along d; none where s is 0.
+fn enter(
+    work: &[u32],
+    s: usize,
+    stride: usize,
+    p: usize,
+    d: usize,
+    along: Line,
+    before: Line,
+    across: Line,
+    cross: u32,
+) -> Pair
+    requires { ⌜ Near (now work) s stride p d (along .len) ⌝ }
+    ensures { λ r. ⌜ r ≡ intoOf (now (work .entry)) s stride p d along before across cross ⌝ }
+{
+    if s == 0 {
+        return Pair { best: 0, run: 0 };
+    }
+    let u = p - stride;
+    let a = edge_at(work, u, d, before, across);
+    let c = edge_at(work, u, 1 - d, across, before);
+    rule(a, c, start_at(u), across.on & along.into, along.len, cross)
+}
+
+// The four words of the vertex at position p.
+fn put(work: &mut [u32], p: usize, x: Pair, y: Pair)
+    requires { ⌜ (p * 4 + 3 < length (now work)) × (p < 4096) ⌝ }
+    ensures { λ _. ⌜ now (work .exit) ≡ four (now (work .entry)) (p * 4) x y ⌝ }
+{
+    let k = p * 4;
+    work[k] = x.best;
+    work[k + 1] = x.run;
+    work[k + 2] = y.best;
+    work[k + 3] = y.run;
+}
+
+// The vertex in column a and row b, at position p: left and below are the lines before its column and its row.
+fn vertex(
+    work: &mut [u32],
+    w: usize,
+    a: usize,
+    b: usize,
+    p: usize,
+    col: Line,
+    left: Line,
+    row: Line,
+    below: Line,
+    cross: u32,
+)
+    requires { ⌜ Near (now work) a 1 p 0 (col .len) × Near (now work) b w p 1 (row .len) ⌝ }
+    ensures { λ _. ⌜ now (work .exit) ≡ four (now (work .entry)) (p * 4) (intoOf (now (work .entry)) a 1 p 0 col left row cross)
+        (intoOf (now (work .entry)) b w p 1 row below col cross) ⌝ }
+{
+    let x = enter(&*work, a, 1, p, 0, col, left, row, cross);
+    let y = enter(&*work, b, w, p, 1, row, below, col, cross);
+    put(work, p, x, y);
+}
+
+// The line before line i; the first line for itself.
+fn line_before(i: usize) -> usize
+    ensures { λ r. ⌜ r ≡ pred i ⌝ }
+{
+    if i == 0 { 0 } else { i - 1 }
+}
+
+// The table of the group, in the first 4 * h * w work words. Two loops in one function: passed to a function for each row, the group would be copied
+// for each row.
+pub fn fill(work: &mut [u32], g: Group)
+    requires { ⌜ Fit g (now work) ⌝ }
+    ensures { λ _. ⌜ Ruled g (now (work .exit)) × Beyond (now (work .entry)) (now (work .exit)) (g .h * g .w * 4) ⌝ }
+{
+    let w = g.w;
+    let h = g.h;
+    let cross = g.cross;
+    let mut p: usize = 0;
+    let mut b: usize = 0;
+    while b < h {
+        let i = line_before(b);
+        let row = g.rows[b];
+        let below = g.rows[i];
+        let mut a: usize = 0;
+        while a < w {
+            let j = line_before(a);
+            let col = g.cols[a];
+            let left = g.cols[j];
+            vertex(work, w, a, b, p, col, left, row, below, cross);
+            p += 1;
+            a += 1;
+        }
+        b += 1;
+    }
+}
+
+// What the best walk to the last vertex shares.
+pub fn figure_of(work: &[u32], g: Group) -> u32
+    requires { ⌜ Fit g (now work) ⌝ }
+    ensures { λ r. ⌜ r ≡ figureOf g (now (work .entry)) ⌝ }
+{
+    let p = g.h * g.w - 1;
+    let i = p * 4;
+    let n = larger(larger(work[i], work[i + 2]), start_at(p));
+    if n == 0 { 0 } else { n - 1 }
+}

@@ -1,0 +1,8 @@
+pub mod Listed
+pub mod Numerals
+pub mod Signed
+pub mod Records
+pub mod Listing
+pub mod Plan
+pub mod Length
+pub mod Worked

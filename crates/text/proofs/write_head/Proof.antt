@@ -1,0 +1,119 @@
+-- `text::write_head` meets its contract: each field stands behind the one before, and the figures behind all.
+use borrow.Author.Needs.{needs}
+use native.Mathlib.Omega.{arith}
+use Rattle.text.proofs.Listed.{listed-next, listed-room}
+use Rattle.text.proofs.write_head.Statement.{statement}
+use Rattle.text.proofs.write_head.Tie as tie
+
+slice-aggregate-write-field : tie.Need-slice-aggregate-write-field
+slice-aggregate-write-field c = search needs
+
+cast-write-field : tie.Need-cast-write-field
+cast-write-field c = search needs
+
+write-field-requires : tie.Need-write-field-requires
+write-field-requires c κs = search needs
+
+sub-write-field : tie.Need-sub-write-field
+sub-write-field c = search needs
+
+part-write-field-start : tie.Need-part-write-field-start
+part-write-field-start c = search needs
+
+part-write-field-end : tie.Need-part-write-field-end
+part-write-field-end c = search needs
+
+slice-aggregate-write-field-2 : tie.Need-slice-aggregate-write-field-2
+slice-aggregate-write-field-2 c = search needs
+
+cast-write-field-2 : tie.Need-cast-write-field-2
+cast-write-field-2 c = search needs
+
+write-field-requires-2 : tie.Need-write-field-requires-2
+write-field-requires-2 c κs = search needs
+
+add-at : tie.Need-add-at
+add-at c = search needs
+
+sub-write-field-2 : tie.Need-sub-write-field-2
+sub-write-field-2 c = search needs
+
+part-write-field-start-2 : tie.Need-part-write-field-start-2
+part-write-field-start-2 c = search needs
+
+part-write-field-end-2 : tie.Need-part-write-field-end-2
+part-write-field-end-2 c = search needs
+
+slice-aggregate-write-field-3 : tie.Need-slice-aggregate-write-field-3
+slice-aggregate-write-field-3 c = search needs
+
+cast-write-field-3 : tie.Need-cast-write-field-3
+cast-write-field-3 c = search needs
+
+write-field-requires-3 : tie.Need-write-field-requires-3
+write-field-requires-3 c κs = search needs
+
+add-at-2 : tie.Need-add-at-2
+add-at-2 c = search needs
+
+sub-write-figures : tie.Need-sub-write-figures
+sub-write-figures c = search needs
+
+part-write-figures-start : tie.Need-part-write-figures-start
+part-write-figures-start c = search needs
+
+part-write-figures-end : tie.Need-part-write-figures-end
+part-write-figures-end c = search needs
+
+write-figures-requires : tie.Need-write-figures-requires
+write-figures-requires c κs = search needs
+
+add-result : tie.Need-add-result
+add-result c =
+    let c3 = c .before .before in
+    let c2 = c3 .before .before .before .before in
+    let c1 = c2 .before .before .before .before .before .before in
+    let c0 = c1 .before .before .before .before .before .before in
+    let w = listed-next _ _ _ _ _ _ _ (listed-next _ _ _ _ _ _ _ (c0 .write-field .ensures) (c1 .write-field2 .ensures)) (c2 .write-field3 .ensures) in
+    omega (arith, listed-room _ _ _ _ (listed-next _ _ _ _ _ _ _ w (c3 .write-figures .ensures)), c0 .before .before .before .before .before .good .0)
+
+same-length : tie.Need-same-length
+same-length c = search needs
+
+returns : tie.Need-returns
+returns c =
+    let c3 = c .before .before in
+    let c2 = c3 .before .before .before .before in
+    let c1 = c2 .before .before .before .before .before .before in
+    let c0 = c1 .before .before .before .before .before .before in
+    let w = listed-next _ _ _ _ _ _ _ (listed-next _ _ _ _ _ _ _ (c0 .write-field .ensures) (c1 .write-field2 .ensures)) (c2 .write-field3 .ensures) in
+    listed-next _ _ _ _ _ _ _ w (c3 .write-figures .ensures)
+
+pub write-head-spec : {M : Type 1} → statement M
+write-head-spec =
+    tie.close
+    (tie.spec
+    slice-aggregate-write-field
+    cast-write-field
+    write-field-requires
+    sub-write-field
+    part-write-field-start
+    part-write-field-end
+    slice-aggregate-write-field-2
+    cast-write-field-2
+    write-field-requires-2
+    add-at
+    sub-write-field-2
+    part-write-field-start-2
+    part-write-field-end-2
+    slice-aggregate-write-field-3
+    cast-write-field-3
+    write-field-requires-3
+    add-at-2
+    sub-write-figures
+    part-write-figures-start
+    part-write-figures-end
+    write-figures-requires
+    add-result
+    same-length
+    returns)

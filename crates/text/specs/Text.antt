@@ -1,0 +1,50 @@
+-- The text of a plan and of a refusal, line by line (01, Listing): "Line 1 is the head; each later line has run number, meets, number of corners,
+-- then the corners. A refusal prints `refused 11 at 0`, with its own number and place .. every line ends in one line feed."
+use mathlib.Core.List.{List, _++_, flatMap}
+use Prim.Native.Nat.{ℕ}
+use lib.ListN.{length}
+use lib.IntN.{ℤ, pos, _-ℤ_}
+use Rattle.network.specs.Plane.{Point}
+use Rattle.plan.specs.declared.Head.{Head}
+use Rattle.plan.specs.Plan.{Entry}
+use Rattle.job.specs.declared.Refusal.{Refusal}
+use Rattle.job.specs.Refusal.{refusalNumber, refusalPlace}
+use Rattle.text.specs.Numerals.{ascii, decimal, signed}
+
+-- ` trench 100 saved 40 pits 6`
+abbrev pub figuresText : Head → List ℕ
+figuresText h = (ascii " trench " ++ decimal (h .trench)) ++ (ascii " saved " ++ decimal (h .saved)) ++ (ascii " pits " ++ decimal (h .pits))
+
+-- `job 7 runs 3 centre 1`, then the figures
+abbrev pub headText : Head → List ℕ
+headText h =
+    (ascii "job " ++ decimal (h .job)) ++ (ascii " runs " ++ decimal (h .runs)) ++ (ascii " centre " ++ decimal (h .centre)) ++ figuresText h
+
+-- `route 1 meets 2 corners 4:`, which the corners follow
+abbrev pub routeText : (number meets corners : ℕ) → List ℕ
+routeText number meets corners =
+    (ascii "route " ++ decimal number) ++ (ascii " meets " ++ decimal meets) ++ (ascii " corners " ++ decimal corners) ++ ascii ":"
+
+-- ` 40,10`, in decimetres
+abbrev pub cornerText : (x y : ℤ) → List ℕ
+cornerText x y = ascii " " ++ signed x ++ ascii "," ++ signed y
+
+-- the decimetres of a coordinate, which is held with 1,000,000 added to it
+abbrev pub decimetres : ℕ → ℤ
+decimetres c = pos c -ℤ pos 1000000
+
+-- a corner of a route
+abbrev pub pointText : Point → List ℕ
+pointText p = cornerText (decimetres (p .x)) (decimetres (p .y))
+
+-- the line of a run, without its line feed
+abbrev pub entryText : Entry → List ℕ
+entryText e = routeText (e .number) (e .meets) (length (e .corners)) ++ flatMap pointText (e .corners)
+
+-- a plan: the head's line, then a line for each run
+unfoldable pub planText : Head → List Entry → List ℕ
+planText h es = (headText h ++ ascii "\n") ++ flatMap (λ e. entryText e ++ ascii "\n") es
+
+-- `refused 11 at 0`
+unfoldable pub refusalText : Refusal → List ℕ
+refusalText r = (ascii "refused " ++ decimal (refusalNumber r)) ++ (ascii " at " ++ decimal (refusalPlace r)) ++ ascii "\n"

@@ -1,0 +1,253 @@
+// The text of a plan and of a refusal (document 01, "Listing"). Each piece is written into the rest of the text buffer behind the piece before
+// it. A writer puts as much of its text as there is room for at the front of what it is lent, and answers how many bytes that is.
+use job::Refusal;
+use plan::Head;
+ghost use mathlib.Core.Path.{_≡_};
+ghost use mathlib.Core.List.{[], _∷_, _++_};
+ghost use Prim.Native.Nat.{_≤_};
+ghost use lib.ListN.{length};
+ghost use mir.Syntax.{w32};
+ghost use mir.Val.{toZ};
+ghost use Rattle.text.specs.Numerals.{ascii, decimal, signed};
+ghost use Rattle.text.specs.Text.{figuresText, headText, routeText, cornerText, refusalText};
+ghost use Rattle.text.specs.Records.{headOf, decoded, recordOf};
+ghost use Rattle.text.specs.Listing.{listingOf};
+ghost use Rattle.text.specs.Listed.{Listed, ListedRecord};
+
+// What stands at a place of a plan: a whole record, or what is none of the four kinds.
+pub enum Record {
+    Head(Head),
+    Route {
+        number: u32,
+        meets: u32,
+        corners: u32,
+    },
+    Corner {
+        x: u32,
+        y: u32,
+    },
+    End,
+    Other,
+}
+
+// How many bytes of a plan were read, and how many of its text were written.
+pub struct Step {
+    pub read: usize,
+    pub written: usize,
+}
+
+fn write_byte(text: &mut [u8], b: u8) -> usize
+    ensures { λ n. ⌜ Listed (b ∷ []) (now (text .entry)) (now (text .exit)) n ⌝ }
+{
+    if text.len() == 0 {
+        return 0;
+    }
+    text[0] = b;
+    1
+}
+
+fn write_words(text: &mut [u8], words: &[u8]) -> usize
+    ensures { λ n. ⌜ Listed (now (words .entry)) (now (text .entry)) (now (text .exit)) n ⌝ }
+{
+    let mut at: usize = 0;
+    while at < words.len() {
+        if at >= text.len() {
+            return at;
+        }
+        text[at] = words[at];
+        at += 1;
+    }
+    at
+}
+
+// A number in decimal: its tenth, then its last digit.
+fn write_number(text: &mut [u8], n: u64) -> usize
+    ensures { λ r. ⌜ Listed (decimal n) (now (text .entry)) (now (text .exit)) r ⌝ }
+{
+    if n < 10 {
+        return write_byte(text, 48 + n as u8);
+    }
+    let at = write_number(text, n / 10);
+    at + write_byte(&mut text[at..], 48 + (n % 10) as u8)
+}
+
+// A number behind its name.
+fn write_field(text: &mut [u8], name: &[u8], n: u64) -> usize
+    ensures { λ r. ⌜ Listed (now (name .entry) ++ decimal n) (now (text .entry)) (now (text .exit)) r ⌝ }
+{
+    let at = write_words(text, name);
+    at + write_number(&mut text[at..], n)
+}
+
+// A coordinate's word, read as two's complement.
+fn write_coordinate(text: &mut [u8], word: u32) -> usize
+    ensures { λ n. ⌜ Listed (signed (toZ w32 word)) (now (text .entry)) (now (text .exit)) n ⌝ }
+{
+    if word < 2147483648 {
+        return write_number(text, word as u64);
+    }
+    let at = write_byte(text, b'-');
+    at + write_number(&mut text[at..], 4294967296 - word as u64)
+}
+
+fn write_figures(text: &mut [u8], head: Head) -> usize
+    ensures { λ n. ⌜ Listed (figuresText head) (now (text .entry)) (now (text .exit)) n ⌝ }
+{
+    let mut at = write_field(text, b" trench ", head.trench as u64);
+    at += write_field(&mut text[at..], b" saved ", head.saved as u64);
+    at + write_field(&mut text[at..], b" pits ", head.pits as u64)
+}
+
+fn write_head(text: &mut [u8], head: Head) -> usize
+    ensures { λ n. ⌜ Listed (headText head) (now (text .entry)) (now (text .exit)) n ⌝ }
+{
+    let mut at = write_field(text, b"job ", head.job as u64);
+    at += write_field(&mut text[at..], b" runs ", head.runs as u64);
+    at += write_field(&mut text[at..], b" centre ", head.centre as u64);
+    at + write_figures(&mut text[at..], head)
+}
+
+// A new line, and what it says of a route before the corners.
+fn write_route(text: &mut [u8], number: u32, meets: u32, corners: u32) -> usize
+    ensures { λ n. ⌜ Listed (ascii "\n" ++ routeText number meets corners) (now (text .entry)) (now (text .exit)) n ⌝ }
+{
+    let mut at = write_field(text, b"\nroute ", number as u64);
+    at += write_field(&mut text[at..], b" meets ", meets as u64);
+    at += write_field(&mut text[at..], b" corners ", corners as u64);
+    at + write_byte(&mut text[at..], b':')
+}
+
+fn write_corner(text: &mut [u8], x: u32, y: u32) -> usize
+    ensures { λ n. ⌜ Listed (cornerText (toZ w32 x) (toZ w32 y)) (now (text .entry)) (now (text .exit)) n ⌝ }
+{
+    let mut at = write_byte(text, b' ');
+    at += write_coordinate(&mut text[at..], x);
+    at += write_byte(&mut text[at..], b',');
+    at + write_coordinate(&mut text[at..], y)
+}
+
+// The text of a refusal, as much of it as there is room for, and how many bytes that is.
+pub fn list_refusal(refusal: Refusal, text: &mut [u8]) -> usize
+    ensures { λ n. ⌜ Listed (refusalText refusal) (now (text .entry)) (now (text .exit)) n ⌝ }
+{
+    let mut at = write_field(text, b"refused ", job::refusal_number(refusal) as u64);
+    at += write_field(&mut text[at..], b" at ", job::refusal_place(refusal) as u64);
+    at + write_byte(&mut text[at..], b'\n')
+}
+
+// The head in a body.
+fn head_of(body: &[u8]) -> Head
+    requires { ⌜ 18 ≤ length (now body) ⌝ }
+    ensures { λ r. ⌜ r ≡ headOf (now (body .entry)) ⌝ }
+{
+    Head {
+        job: job::le32(body, 0),
+        runs: job::le16(body, 4),
+        trench: job::le32(body, 6),
+        saved: job::le32(body, 10),
+        pits: job::le16(body, 14),
+        centre: job::le16(body, 16),
+    }
+}
+
+// The record of this kind whose body the bytes begin with.
+fn decode(kind: u8, body: &[u8]) -> Record
+    ensures { λ r. ⌜ r ≡ decoded kind (now (body .entry)) ⌝ }
+{
+    if kind == 0x50 {
+        if body.len() < 18 {
+            return Record::Other;
+        }
+        return Record::Head(head_of(body));
+    }
+    if kind == 0x4E {
+        if body.len() < 6 {
+            return Record::Other;
+        }
+        return Record::Route {
+            number: job::le16(body, 0),
+            meets: job::le16(body, 2),
+            corners: job::le16(body, 4),
+        };
+    }
+    if kind == 0x43 {
+        if body.len() < 8 {
+            return Record::Other;
+        }
+        return Record::Corner {
+            x: job::le32(body, 0),
+            y: job::le32(body, 4),
+        };
+    }
+    if kind == 0x5A {
+        if body.len() < 2 {
+            return Record::Other;
+        }
+        return Record::End;
+    }
+    Record::Other
+}
+
+// The record that the bytes begin with.
+pub fn first_record(plan: &[u8]) -> Record
+    ensures { λ r. ⌜ r ≡ recordOf (now (plan .entry)) ⌝ }
+{
+    if plan.len() == 0 {
+        return Record::Other;
+    }
+    decode(plan[0], &plan[1..])
+}
+
+// Lists the record that the bytes begin with. What ends the listing passes over all bytes.
+fn list_record(plan: &[u8], text: &mut [u8]) -> Step
+    ensures { λ s. ⌜ ListedRecord (now (plan .entry)) (now (text .entry)) (now (text .exit)) s ⌝ }
+{
+    match first_record(plan) {
+        Record::Head(head) => Step {
+            read: 19,
+            written: write_head(text, head),
+        },
+        Record::Route {
+            number,
+            meets,
+            corners,
+        } => Step {
+            read: 7,
+            written: write_route(text, number, meets, corners),
+        },
+        Record::Corner { x, y } => Step {
+            read: 9,
+            written: write_corner(text, x, y),
+        },
+        Record::End => Step {
+            read: plan.len(),
+            written: write_byte(text, b'\n'),
+        },
+        Record::Other => Step {
+            read: plan.len(),
+            written: 0,
+        },
+    }
+}
+
+// The text of a plan, as much of it as there is room for, and how many bytes that is. Bytes that are no plan give the text of the whole records
+// that they begin with.
+pub fn list_plan(plan: &[u8], text: &mut [u8]) -> usize
+    ensures { λ n. ⌜ Listed (listingOf (now (plan .entry))) (now (text .entry)) (now (text .exit)) n ⌝ }
+{
+    let mut read: usize = 0;
+    let mut written: usize = 0;
+    while read < plan.len() {
+        let step = list_record(&plan[read..], &mut text[written..]);
+        read += step.read;
+        written += step.written;
+    }
+    written
+}
+
+// Zeros, enough for every text of a plan with at most 32 runs and of a refusal.
+pub fn buffer() -> [u8; 74421]
+    ensures { λ r. ⌜ 74421 ≡ length r ⌝ }
+{
+    [0; 74421]
+}

@@ -1,0 +1,82 @@
+// Prints the listing of each plan on standard input, then the text of every refusal. A line of the input is a label, a space and the plan's bytes
+// in hexadecimal. It prints the label and the length of the text, the text, a bar, and then as much of the text as 40 bytes have room for, and a bar.
+use job::Refusal;
+use libc::STDIN_FILENO;
+use libc::STDOUT_FILENO;
+
+fn print(words: &[u8]) {
+    io::write_all(STDOUT_FILENO, words);
+}
+
+fn print_text(words: &[u8]) {
+    print(words);
+    print(b"|\n");
+}
+
+fn list(plan: &[u8]) {
+    let mut line = text::buffer();
+    let n = text::list_plan(plan, &mut line);
+    print(b" ");
+    io::print_decimal(STDOUT_FILENO, n as u64);
+    print(b"\n");
+    print_text(&line[..n]);
+    let mut short = [0u8; 40];
+    let m = text::list_plan(plan, &mut short);
+    print_text(&short[..m]);
+}
+
+fn list_line(line: &[u8]) {
+    let space = hex::place_of(line, b' ', 0);
+    let digits = hex::least(space + 1, line.len());
+    print(&line[..space]);
+    let mut bytes = io::buffer();
+    let n = hex::unhex(&line[digits..], &mut bytes);
+    list(&bytes[..n]);
+}
+
+fn list_lines(lines: &[u8]) {
+    let mut from: usize = 0;
+    while from < lines.len() {
+        let end = hex::place_of(lines, b'\n', from);
+        list_line(&lines[from..end]);
+        from = end + 1;
+    }
+}
+
+// The refusal of this number, at this place where it has one.
+fn refusal(number: u32, place: usize) -> Refusal {
+    match number {
+        1 => Refusal::ShortWork,
+        2 => Refusal::ShortPlan,
+        3 => Refusal::Cut(place),
+        4 => Refusal::UnknownKind(place),
+        5 => Refusal::Misplaced(place),
+        6 => Refusal::WrongCount(place),
+        7 => Refusal::WrongNumber(place),
+        8 => Refusal::OutOfRange(place),
+        9 => Refusal::TooManyRuns(place),
+        10 => Refusal::NoRuns(place),
+        _ => Refusal::NoStar,
+    }
+}
+
+fn list_refusal(refusal: Refusal) {
+    let mut line = text::buffer();
+    let n = text::list_refusal(refusal, &mut line);
+    print(&line[..n]);
+}
+
+fn list_refusals(place: usize) {
+    for number in 1..12 {
+        list_refusal(refusal(number, place));
+    }
+}
+
+fn main() {
+    let mut lines = io::large_buffer();
+    let n = io::read_full(STDIN_FILENO, &mut lines);
+    list_lines(&lines[..n]);
+    list_refusals(0);
+    list_refusals(615);
+    list_refusals(18446744073709551615);
+}
