@@ -1,0 +1,41 @@
+//! Links the archive that the variable TRENCH_ARCHIVE names (default: what `rt staticlib planner` writes), and the plain C
+//! planner of `bench/`, which `cc` compiles at -O3.
+
+use std::env;
+use std::path::{Path, PathBuf};
+use std::process::Command;
+
+fn main() {
+    let here = PathBuf::from(env::var("CARGO_MANIFEST_DIR").expect("cargo sets it"));
+    let out = PathBuf::from(env::var("OUT_DIR").expect("cargo sets it"));
+    println!("cargo:rerun-if-env-changed=TRENCH_ARCHIVE");
+    let archive =
+        env::var("TRENCH_ARCHIVE").map_or_else(|_| here.join("../../target/staticlib/libplanner.a"), PathBuf::from);
+    let archive = archive.canonicalize().unwrap_or_else(|error| panic!("the archive {}: {error}", archive.display()));
+    let copy = out.join("libtrench_archive_under_test.a");
+    std::fs::copy(&archive, &copy).expect("the archive can be copied");
+    println!("cargo:rerun-if-changed={}", archive.display());
+    println!("cargo:rustc-link-lib=static=trench_archive_under_test");
+    println!("cargo:rustc-env=TRENCH_ARCHIVE_COPY={}", copy.display());
+    for (source, name) in [("../bench/table.c", "trench_table"), ("c/stray.c", "trench_stray")] {
+        compile(&here.join(source), &out, name);
+        println!("cargo:rustc-link-lib=static={name}");
+    }
+    println!("cargo:rustc-link-search=native={}", out.display());
+    println!("cargo:rerun-if-changed=../bench");
+    println!("cargo:rerun-if-changed=c");
+}
+
+fn compile(source: &Path, out: &Path, name: &str) {
+    let object = out.join(format!("{name}.o"));
+    let library = out.join(format!("lib{name}.a"));
+    let warnings = ["-std=c99", "-O3", "-fPIC", "-Wall", "-Wextra", "-Wpedantic", "-Werror", "-c"];
+    run(Command::new("cc").args(warnings).arg(source).arg("-o").arg(&object));
+    let _ = std::fs::remove_file(&library);
+    run(Command::new("ar").arg("rcs").arg(&library).arg(&object));
+}
+
+fn run(command: &mut Command) {
+    let status = command.status().unwrap_or_else(|error| panic!("{command:?}: {error}"));
+    assert!(status.success(), "{command:?} failed");
+}

@@ -1,0 +1,118 @@
+//! Compares the archive's planner, or a listing program, with the independent reading on many jobs. Exit status 1 where
+//! anything differs.
+
+use std::io::Write;
+use std::process::{Command, ExitCode, Stdio};
+use std::time::{Instant, SystemTime, UNIX_EPOCH};
+
+use trench_archive::call::{Against, Function, Guarded};
+use trench_check::compare::{Report, case, try_cases, try_listing};
+
+const USAGE: &str = "\
+usage: differ [--table] JOBS          so many jobs of the fixed seed, and as many of a fresh one, which is printed
+       differ [--table] SEED FROM TO  the jobs FROM to TO - 1 of a seed; each is named before it is tried
+       differ --listing PROGRAM JOBS  the same jobs for a program that reads a job book and prints its listing
+--table tries the plain C planner in place of the archive's";
+
+/// The seed that every run starts with.
+const FIXED_SEED: u64 = 1;
+/// From this number of jobs on, every refusal and every number of runs must have been tried.
+const MANY: u64 = 5_000;
+
+fn main() -> ExitCode {
+    let words: Vec<String> = std::env::args().skip(1).collect();
+    let words: Vec<&str> = words.iter().map(String::as_str).collect();
+    let good = match words[..] {
+        ["--listing", program, jobs] => numbers(&[jobs]).map(|n| seeds(n[0], |seed, jobs| listed(program, seed, jobs))),
+        ["--table", ref rest @ ..] => numbers(rest).and_then(|numbers| compared(Function::Table, &numbers)),
+        ref all => numbers(all).and_then(|numbers| compared(Function::Archive, &numbers)),
+    };
+    match good {
+        Some(true) => ExitCode::SUCCESS,
+        Some(false) => ExitCode::FAILURE,
+        None => {
+            eprintln!("{USAGE}");
+            ExitCode::FAILURE
+        }
+    }
+}
+
+fn numbers(words: &[&str]) -> Option<Vec<u64>> {
+    words.iter().map(|word| word.parse().ok()).collect()
+}
+
+fn compared(function: Function, numbers: &[u64]) -> Option<bool> {
+    match *numbers {
+        [jobs] => Some(seeds(jobs, |seed, jobs| many(function, seed, jobs))),
+        [seed, from, to] => Some(one_by_one(function, seed, from, to)),
+        _ => None,
+    }
+}
+
+/// Tries so many jobs of the fixed seed, and of a fresh one; whether all went well.
+fn seeds(jobs: u64, attempt: impl Fn(u64, u64) -> Report) -> bool {
+    let now = SystemTime::now().duration_since(UNIX_EPOCH).expect("a clock after 1970");
+    let mut good = true;
+    for (name, seed) in [("fixed", FIXED_SEED), ("fresh", now.as_nanos() as u64)] {
+        println!("{name} seed {seed}, {jobs} jobs:");
+        let start = Instant::now();
+        let mut report = attempt(seed, jobs);
+        if jobs >= MANY {
+            report.faults.extend(report.untried().into_iter().map(|what| format!("seed {seed} never tried {what}")));
+        }
+        println!("{report}; {:.1} s", start.elapsed().as_secs_f64());
+        good &= told(&report);
+    }
+    good
+}
+
+/// Tries the first jobs of a seed, on two threads at once.
+fn many(function: Function, seed: u64, jobs: u64) -> Report {
+    let mut report = Report::default();
+    std::thread::scope(|scope| {
+        let share = |from| move || try_cases(&mut Guarded::new(function, Against::Back), seed, from, jobs, 2);
+        let threads = [scope.spawn(share(0)), scope.spawn(share(1))];
+        threads.into_iter().for_each(|thread| report.add(thread.join().expect("the comparison itself does not fail")));
+    });
+    report
+}
+
+/// Has a program list the first jobs of a seed.
+fn listed(program: &str, seed: u64, jobs: u64) -> Report {
+    let mut report = Report::default();
+    for n in 0..jobs {
+        let before = report.faults.len();
+        let case = case(seed, n);
+        let printed = printed_by(program, &case.bytes).unwrap_or_else(|error| panic!("{program}: {error}"));
+        try_listing(&case, &printed, &mut report);
+        report.faults[before..].iter_mut().for_each(|fault| *fault = format!("seed {seed} job {n}: {fault}"));
+    }
+    report
+}
+
+fn printed_by(program: &str, input: &[u8]) -> std::io::Result<String> {
+    let mut child = Command::new(program).stdin(Stdio::piped()).stdout(Stdio::piped()).spawn()?;
+    // A program that has read enough may close its input early, and the write then fails.
+    let _ = child.stdin.take().expect("a pipe").write_all(input);
+    let output = child.wait_with_output()?;
+    Ok(String::from_utf8_lossy(&output.stdout).into_owned())
+}
+
+fn one_by_one(function: Function, seed: u64, from: u64, to: u64) -> bool {
+    let mut report = Report::default();
+    for n in from..to {
+        println!("seed {seed} job {n}: {}", case(seed, n).what);
+        report.add(try_cases(&mut Guarded::new(function, Against::Back), seed, n, n + 1, 1));
+    }
+    println!("{report}");
+    told(&report)
+}
+
+/// Prints the first faults; whether there is none.
+fn told(report: &Report) -> bool {
+    report.faults.iter().take(10).for_each(|fault| println!("  {fault}"));
+    if report.faults.len() > 10 {
+        println!("  and {} more", report.faults.len() - 10);
+    }
+    report.faults.is_empty()
+}

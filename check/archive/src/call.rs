@@ -1,0 +1,179 @@
+//! The only unsafe code: the declarations of the C functions, calls of them, and memory between inaccessible pages.
+//! Nothing checks the declarations against the archive; `include/trench.h` says the same to C.
+
+#![allow(unsafe_code)]
+
+use std::ffi::c_void;
+
+use trench_check::compare::{Called, Caller};
+
+type Plan = unsafe extern "C" fn(*const u8, usize, *mut u8, usize) -> i32;
+
+unsafe extern "C" {
+    fn trench_plan(job: *const u8, job_len: usize, out: *mut u8, out_len: usize) -> i32;
+    fn table_plan(job: *const u8, job_len: usize, out: *mut u8, out_len: usize) -> i32;
+    fn table_plan_clearing(job: *const u8, job_len: usize, out: *mut u8, out_len: usize) -> i32;
+    fn stray_write_before(job: *const u8, job_len: usize, out: *mut u8, out_len: usize) -> i32;
+    fn stray_write_behind(job: *const u8, job_len: usize, out: *mut u8, out_len: usize) -> i32;
+    fn stray_write_job(job: *const u8, job_len: usize, out: *mut u8, out_len: usize) -> i32;
+    fn stray_read_before(job: *const u8, job_len: usize, out: *mut u8, out_len: usize) -> i32;
+    fn stray_read_behind(job: *const u8, job_len: usize, out: *mut u8, out_len: usize) -> i32;
+    fn mmap(at: *mut c_void, length: usize, protection: i32, flags: i32, file: i32, offset: i64) -> *mut c_void;
+    fn mprotect(at: *mut c_void, length: usize, protection: i32) -> i32;
+    fn munmap(at: *mut c_void, length: usize) -> i32;
+}
+
+/// A C function with the interface of `trench_plan`.
+#[derive(Clone, Copy, Debug, PartialEq, Eq)]
+pub enum Function {
+    /// `trench_plan` of the archive.
+    Archive,
+    /// The plain C planner of `bench/`.
+    Table,
+    /// The plain C planner that clears its work words as the proved one does.
+    TableClearing,
+    /// Changes the byte before the plan buffer.
+    StrayWriteBefore,
+    /// Changes the byte behind the plan buffer.
+    StrayWriteBehind,
+    /// Changes the first byte of the job.
+    StrayWriteJob,
+    /// Reads the byte before the job.
+    StrayReadBefore,
+    /// Reads the byte behind the job.
+    StrayReadBehind,
+}
+
+impl Function {
+    fn pointer(self) -> Plan {
+        match self {
+            Function::Archive => trench_plan,
+            Function::Table => table_plan,
+            Function::TableClearing => table_plan_clearing,
+            Function::StrayWriteBefore => stray_write_before,
+            Function::StrayWriteBehind => stray_write_behind,
+            Function::StrayWriteJob => stray_write_job,
+            Function::StrayReadBefore => stray_read_before,
+            Function::StrayReadBehind => stray_read_behind,
+        }
+    }
+
+    /// Whether a call touches nothing but what it is lent, so that it can be made from safe code.
+    fn keeps_to_its_memory(self) -> bool {
+        matches!(self, Function::Archive | Function::Table | Function::TableClearing)
+    }
+}
+
+/// Plans a job: the plan's length, or minus the refusal number.
+pub fn plan(function: Function, job: &[u8], out: &mut [u8]) -> i32 {
+    assert!(function.keeps_to_its_memory());
+    // SAFETY: the function reads `job.len()` bytes of job and reads and writes `out.len()` bytes of out; both slices are
+    // alive and do not overlap, since one of them is borrowed mutably.
+    unsafe { function.pointer()(job.as_ptr(), job.len(), out.as_mut_ptr(), out.len()) }
+}
+
+const PAGE: usize = 4096;
+const NO_ACCESS: i32 = 0;
+const READ_AND_WRITE: i32 = 3;
+const PRIVATE_AND_ANONYMOUS: i32 = 0x22;
+/// What stands in the part of a room that is not lent.
+const CANARY: u8 = 0xA5;
+
+/// Memory of some pages between two that nobody may touch: a read or a write beyond it ends the process.
+struct Room {
+    base: *mut u8,
+    size: usize,
+}
+
+impl Room {
+    fn new(pages: usize) -> Room {
+        let size = pages * PAGE;
+        // SAFETY: a fresh mapping of our own; no other memory is touched.
+        let base = unsafe {
+            let nowhere = std::ptr::null_mut();
+            let base = mmap(nowhere, size + 2 * PAGE, NO_ACCESS, PRIVATE_AND_ANONYMOUS, -1, 0);
+            assert!(base as isize != -1, "no memory");
+            let base = base.cast::<u8>().add(PAGE);
+            assert_eq!(mprotect(base.cast(), size, READ_AND_WRITE), 0, "no access");
+            base
+        };
+        Room { base, size }
+    }
+
+    fn bytes(&mut self) -> &mut [u8] {
+        // SAFETY: `size` bytes from `base` are mapped, readable and writable while the room lives, and the room owns them.
+        unsafe { std::slice::from_raw_parts_mut(self.base, self.size) }
+    }
+
+    /// Puts bytes against one of the inaccessible pages, canaries elsewhere, and gives the offset of the bytes.
+    fn lend(&mut self, bytes: &[u8], against: Against) -> usize {
+        let start = if against == Against::Back { self.size - bytes.len() } else { 0 };
+        let room = self.bytes();
+        room.fill(CANARY);
+        room[start..start + bytes.len()].copy_from_slice(bytes);
+        start
+    }
+
+    /// The number of canaries around the lent part that were changed.
+    fn changed_around(&mut self, start: usize, length: usize) -> usize {
+        let room = self.bytes();
+        let around = room[..start].iter().chain(&room[start + length..]);
+        around.filter(|&&byte| byte != CANARY).count()
+    }
+}
+
+impl Drop for Room {
+    fn drop(&mut self) {
+        // SAFETY: the mapping that `new` made, which nothing refers to any more.
+        unsafe { munmap(self.base.sub(PAGE).cast(), self.size + 2 * PAGE) };
+    }
+}
+
+/// Which of the two inaccessible pages memory is lent against.
+#[derive(Clone, Copy, Debug, PartialEq, Eq)]
+pub enum Against {
+    /// The one before it.
+    Front,
+    /// The one behind it.
+    Back,
+}
+
+/// Calls a function with job and plan buffer each against an inaccessible page, by turns the one behind and the one before.
+/// The rest of their pages holds canaries.
+pub struct Guarded {
+    function: Function,
+    job: Room,
+    out: Room,
+    next: Against,
+}
+
+impl Guarded {
+    /// A caller of this function; job books of at most 4,096 bytes, plan buffers of at most 45,056. The first call is made
+    /// against these pages.
+    pub fn new(function: Function, first: Against) -> Guarded {
+        Guarded { function, job: Room::new(1), out: Room::new(11), next: first }
+    }
+}
+
+impl Caller for Guarded {
+    fn call(&mut self, job: &[u8], out: &mut [u8]) -> Called {
+        let job_at = self.job.lend(job, self.next);
+        let out_at = self.out.lend(out, self.next);
+        self.next = if self.next == Against::Back { Against::Front } else { Against::Back };
+        // SAFETY: both parts lie in rooms that live and do not overlap. A function that strays beyond its parts hits
+        // canaries, or a page that it may not touch; then the process ends.
+        let answer = unsafe {
+            self.function.pointer()(self.job.base.add(job_at), job.len(), self.out.base.add(out_at), out.len())
+        };
+        let mut strayed = None;
+        if &self.job.bytes()[job_at..job_at + job.len()] != job {
+            strayed = Some("the job was changed".to_string());
+        }
+        let around = self.job.changed_around(job_at, job.len()) + self.out.changed_around(out_at, out.len());
+        if around > 0 {
+            strayed = Some(format!("bytes changed outside the lent ones: {around}"));
+        }
+        out.copy_from_slice(&self.out.bytes()[out_at..out_at + out.len()]);
+        Called { answer, strayed }
+    }
+}

@@ -1,0 +1,122 @@
+//! The samples are what they say, and the desk's program plans them in one command.
+
+mod common;
+
+use std::path::Path;
+
+use common::{planned, run, samples, text};
+use trench_check::book::job_bytes;
+use trench_check::job::Job;
+use trench_check::judge::judge;
+use trench_check::listing;
+use trench_check::plan_book::PlanBook;
+use trench_check::refusal::{verdict, words};
+use trench_check::text::{parse, why_no_star};
+
+fn desk() -> &'static Path {
+    Path::new(env!("CARGO_BIN_EXE_desk"))
+}
+
+fn read(path: &Path) -> String {
+    std::fs::read_to_string(path).unwrap_or_else(|error| panic!("{}: {error}", path.display()))
+}
+
+/// The figures that are the same in every least plan.
+fn figures(book: &PlanBook) -> (u32, u32, u16, Vec<u16>) {
+    (book.trench, book.saved, book.centre, book.routes.iter().map(|route| route.meets).collect())
+}
+
+#[test]
+fn typed_samples_are_their_job_books() {
+    for path in samples("txt") {
+        let typed = parse(&read(&path)).unwrap_or_else(|errors| panic!("{}: {}", path.display(), errors[0]));
+        let book = std::fs::read(path.with_extension("job")).expect("its job book");
+        assert_eq!(job_bytes(&typed.job), book, "{}", path.display());
+    }
+}
+
+/// Several least plans may exist, so a stored listing need not be the archive's: it must be a right one, with the same figures.
+#[test]
+fn stored_listings_are_right() {
+    for path in samples("job") {
+        let job = std::fs::read(&path).expect("a sample");
+        let stored = read(&path.with_extension("lst"));
+        match verdict(&job) {
+            Err(refusal) => {
+                assert_eq!(stored, listing::of_refusal(refusal), "{}", path.display());
+                assert_eq!(planned(&job), Err(-refusal.number), "{}", path.display());
+            }
+            Ok(_) => {
+                let book = listing::read_plan(&stored).unwrap_or_else(|fault| panic!("{}: {fault}", path.display()));
+                assert_eq!(judge(&job, &book.bytes()), Vec::<String>::new(), "{}", path.display());
+                assert_eq!(planned(&job).map(|plan| figures(&plan)), Ok(figures(&book)), "{}", path.display());
+            }
+        }
+    }
+}
+
+#[test]
+fn the_surveyed_examples_of_document_01() {
+    let outcome = |n: usize| match n {
+        1 => Some((0, 0)),
+        2 => Some((7, 0)),
+        3 => Some((7, 7)),
+        6 => Some((9, 3)),
+        7 => Some((10, 4)),
+        8 => Some((7, 2)),
+        9 => Some((16, 8)),
+        10 => Some((10, 3)),
+        12 => Some((5, 1)),
+        _ => None,
+    };
+    let examples: Vec<_> = samples("job")
+        .into_iter()
+        .filter(|path| path.file_name().is_some_and(|name| name.to_string_lossy().starts_with("example-")))
+        .collect();
+    assert_eq!(examples.len(), 12);
+    for (n, path) in (1..).zip(examples) {
+        let plan = planned(&std::fs::read(&path).expect("a sample"));
+        assert_eq!(plan.clone().ok().map(|plan| (plan.trench, plan.saved)), outcome(n), "{}", path.display());
+        assert_eq!(plan.err(), outcome(n).is_none().then_some(-11), "{}", path.display());
+    }
+}
+
+#[test]
+fn the_desk_plans_in_one_command() {
+    for path in samples("txt") {
+        let typed = parse(&read(&path)).expect("a typed job");
+        let job: &Job = &typed.job;
+        let book = job_bytes(job);
+        let output = run(desk(), &[path.to_str().expect("a name")], &[]);
+        match verdict(&book) {
+            Ok(_) => {
+                assert_eq!((output.status.code(), text(&output.stderr)), (Some(0), String::new()));
+                let plan = listing::read_plan(&text(&output.stdout)).expect("a listing");
+                assert_eq!(judge(&book, &plan.bytes()), Vec::<String>::new(), "{}", path.display());
+            }
+            Err(refusal) => {
+                let why = format!("{}: {}\n", words(refusal.number), why_no_star(&typed));
+                let told = (output.status.code(), text(&output.stdout), text(&output.stderr));
+                assert_eq!(told, (Some(1), listing::of_refusal(refusal), why), "{}", path.display());
+            }
+        }
+        let written = run(desk(), &["--book"], read(&path).as_bytes());
+        assert_eq!((written.status.code(), written.stdout), (Some(0), book), "{}", path.display());
+    }
+}
+
+#[test]
+fn the_desk_names_the_line_of_an_error() {
+    let wrong = run(desk(), &[], b"job 7\n1 0,0 40,30\n1 0,10 40\n");
+    let told = "standard input: line 3: run number 1 is not above 1, the one before (refusal 7)\n";
+    assert_eq!(
+        (wrong.status.code(), text(&wrong.stderr), text(&wrong.stdout)),
+        (Some(1), told.to_string(), String::new())
+    );
+    let missing = run(desk(), &["no/such/file"], &[]);
+    assert_eq!(missing.status.code(), Some(2));
+    assert!(text(&missing.stderr).starts_with("desk: no/such/file: "));
+    assert_eq!(run(desk(), &["--help"], &[]).status.code(), Some(2));
+    let strange = run(desk(), &[], &[0xFF, 0xFE, b'\n']);
+    assert_eq!(strange.status.code(), Some(1), "bytes that are no text");
+}

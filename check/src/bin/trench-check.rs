@@ -1,0 +1,134 @@
+//! Makes vectors (small jobs, their figures, their bytes, damaged books) and judges plans. `check/README.md` says what each
+//! command reads and prints.
+
+use std::io::Read;
+use std::process::ExitCode;
+
+use trench_check::book;
+use trench_check::damage;
+use trench_check::enumerate;
+use trench_check::generate::{self, KINDS};
+use trench_check::graph::Survey;
+use trench_check::in_out;
+use trench_check::job::Job;
+use trench_check::judge::judge;
+use trench_check::line;
+use trench_check::listing;
+use trench_check::plan_book::PlanBook;
+use trench_check::planner;
+use trench_check::random::Random;
+use trench_check::refusal;
+
+/// The number of sequences of routes up to which `figures` tries them all.
+const SEQUENCES: usize = 4_000_000;
+
+const USAGE: &str = "\
+usage: trench-check jobs SEED COUNT      small star jobs of every kind, one a line
+       trench-check figures [FILE]       the figures of each job of a file of such lines
+       trench-check books [FILE]         the job book of each, in hexadecimal
+       trench-check damaged SEED COUNT   damaged job books in hexadecimal, with the refusal that is due
+       trench-check list JOB             the listing of a job book's plan, by the independent planner
+       trench-check judge JOB PLAN       what is wrong with a plan book of a job book";
+
+fn main() -> ExitCode {
+    let words: Vec<String> = std::env::args().skip(1).collect();
+    let words: Vec<&str> = words.iter().map(String::as_str).collect();
+    let done = match words[..] {
+        ["jobs", seed, count] => numbers(seed, count).map(|(seed, count)| jobs(seed, count)),
+        ["figures"] => each_job(None, figures),
+        ["figures", file] => each_job(Some(file), figures),
+        ["books"] => each_job(None, |job| book::hex(&book::job_bytes(job))),
+        ["books", file] => each_job(Some(file), |job| book::hex(&book::job_bytes(job))),
+        ["damaged", seed, count] => numbers(seed, count).map(|(seed, count)| damaged(seed, count)),
+        ["list", job] => list(job),
+        ["judge", job, plan] => judged(job, plan),
+        _ => Err(USAGE.to_string()),
+    };
+    match done {
+        Ok(()) => ExitCode::SUCCESS,
+        Err(message) => {
+            eprintln!("{message}");
+            ExitCode::FAILURE
+        }
+    }
+}
+
+fn numbers(seed: &str, count: &str) -> Result<(u64, u64), String> {
+    let number = |word: &str| word.parse::<u64>().map_err(|_| format!("`{word}` is no number\n{USAGE}"));
+    Ok((number(seed)?, number(count)?))
+}
+
+fn jobs(seed: u64, count: u64) {
+    for n in 0..count {
+        let kind = KINDS[(n % KINDS.len() as u64) as usize];
+        println!("{}  # {kind:?}", line::show(&generate::small_star(&mut Random::nth(seed, n), kind)));
+    }
+}
+
+fn damaged(seed: u64, count: u64) {
+    for n in 0..count {
+        let made = damage::damaged(&mut Random::nth(seed, n), (n % damage::WAYS as u64) as usize);
+        println!("{} | {} | {}", book::hex(&made.bytes), made.refusal, made.what);
+    }
+}
+
+fn read(name: &str) -> Result<Vec<u8>, String> {
+    std::fs::read(name).map_err(|error| format!("{name}: {error}"))
+}
+
+fn list(job: &str) -> Result<(), String> {
+    match refusal::verdict(&read(job)?) {
+        Ok(job) => print!("{}", listing::of_plan(&PlanBook::of(&job, &planner::plan(&job).expect("a star")))),
+        Err(refused) => print!("{}", listing::of_refusal(refused)),
+    }
+    Ok(())
+}
+
+fn judged(job: &str, plan: &str) -> Result<(), String> {
+    let faults = judge(&read(job)?, &read(plan)?);
+    if faults.is_empty() {
+        println!("right");
+        return Ok(());
+    }
+    Err(faults.join("\n"))
+}
+
+/// Prints each job of a file (or of standard input) with what `answer` says of it. The job numbers are 1, 2, 3.
+fn each_job(file: Option<&str>, answer: impl Fn(&Job) -> String) -> Result<(), String> {
+    let mut text = String::new();
+    match file {
+        Some(name) => text = std::fs::read_to_string(name).map_err(|error| format!("{name}: {error}"))?,
+        None => {
+            std::io::stdin().read_to_string(&mut text).map_err(|error| format!("standard input: {error}"))?;
+        }
+    }
+    let mut number = 0;
+    for (at, words) in text.lines().enumerate() {
+        let place = |message| format!("{}: line {}: {message}", file.unwrap_or("standard input"), at + 1);
+        if let Some(job) = line::parse(words, number + 1).map_err(place)? {
+            number += 1;
+            println!("{} | {}", line::show(&job), answer(&job));
+        }
+    }
+    Ok(())
+}
+
+fn figures(job: &Job) -> String {
+    let Survey { grid, graph, .. } = Survey::of(job.clone());
+    let centre = graph.centre();
+    let ways = [
+        ("all", enumerate::all(job, &grid, SEQUENCES)),
+        ("each", centre.and_then(|centre| enumerate::each(job, &grid, centre, SEQUENCES))),
+        ("graph", centre.map(|centre| in_out::least(job, centre))),
+    ];
+    let ran: Vec<(&str, i64)> = ways.iter().filter_map(|(name, least)| Some((*name, least.as_ref()?.trench))).collect();
+    assert!(ran.windows(2).all(|pair| pair[0].1 == pair[1].1), "the ways disagree: {ran:?} for {}", line::show(job));
+    let meets: Vec<String> = graph.figures().iter().map(usize::to_string).collect();
+    let centre = centre.map_or("none".to_string(), |index| index.to_string());
+    let (trench, saved) = match ran.first() {
+        Some((_, trench)) => (trench.to_string(), (job.distance() - trench).to_string()),
+        None => ("unknown".to_string(), "unknown".to_string()),
+    };
+    let by: Vec<&str> = ran.iter().map(|(name, _)| *name).collect();
+    format!("meets {} | centre {centre} | trench {trench} | saved {saved} | by {}", meets.join(" "), by.join(" "))
+}

@@ -1,0 +1,262 @@
+//! The comparison of a planner, called as C calls `trench_plan`, with the independent reading: many jobs of all kinds, each
+//! with every size of plan buffer that matters.
+
+use std::collections::BTreeMap;
+use std::fmt;
+
+use crate::book::{hex, job_bytes};
+use crate::damage;
+use crate::generate::{self, KINDS};
+use crate::job::Job;
+use crate::judge::Judge;
+use crate::line;
+use crate::listing;
+use crate::random::Random;
+use crate::refusal::{self, PLAN_ROOM, Refusal};
+
+/// The lengths of plan buffers that every job is tried with.
+pub const SIZES: [usize; 5] = [0, 1, PLAN_ROOM - 1, PLAN_ROOM, PLAN_ROOM + 1];
+
+/// One call as its caller saw it.
+pub struct Called {
+    /// The plan's length, or minus the refusal number.
+    pub answer: i32,
+    /// A byte outside the plan buffer that was changed, in words.
+    pub strayed: Option<String>,
+}
+
+/// Whoever calls the planner: lends it memory of exactly these lengths, and watches the memory around it.
+pub trait Caller {
+    /// Calls the planner with these job bytes and a plan buffer of this content, which it then holds as the call left it.
+    fn call(&mut self, job: &[u8], out: &mut [u8]) -> Called;
+}
+
+/// A job book to try, with what was made to be wrong with it where something was.
+pub struct Case {
+    /// The bytes.
+    pub bytes: Vec<u8>,
+    /// The refusal that is due by the way the book was made.
+    pub made_wrong: Option<Refusal>,
+    /// What kind of book it is.
+    pub what: String,
+}
+
+/// Jobs that every comparison starts with: the surveyed examples of document 01, and jobs at the limits.
+const SPECIAL: [&str; 20] = [
+    "5,5 5,5",
+    "0,0 3,4",
+    "0,0 3,4; 0,0 3,4",
+    "0,0 3,4; 0,0 3,4; 0,0 3,4",
+    "0,0 3,3; 3,3 5,5",
+    "0,0 3,3; 3,0 6,3",
+    "0,0 4,3; 0,3 4,0",
+    "0,0 4,3; 1,1 2,2",
+    "0,0 6,6; 0,2 4,0; 4,6 6,2",
+    "0,0 4,4; 0,2 0,4; 1,0 4,0",
+    "0,2 4,2; 2,0 2,4",
+    "0,0 3,0; 2,0 5,0",
+    "0,0 40,30; 0,10 40,10; 20,20 20,50",
+    "-1000000,-1000000 1000000,1000000",
+    "1000000,-1000000 -1000000,1000000; -1000000,1000000 1000000,-1000000",
+    "1000000,-1000000 -1000000,1000000; -1000000,-1000000 1000000,1000000",
+    "-1000000,0 1000000,0; -1000000,1000000 -999999,-1000000; 999999,1000000 1000000,-1000000",
+    "1000000,1000000 1000000,1000000",
+    "-1000000,-1000000 -1000000,1000000; -1000000,999999 -1000000,-1000000",
+    "0,0 1,0; 0,0 0,1",
+];
+
+/// The n-th case of a seed. The first are special ones, the same for every seed.
+pub fn case(seed: u64, n: u64) -> Case {
+    if let Some(words) = SPECIAL.get(n as usize) {
+        let job = line::parse(words, 7).expect("a job line").expect("a job");
+        return Case { bytes: job_bytes(&job), made_wrong: None, what: format!("special: {words}") };
+    }
+    let n = n - SPECIAL.len() as u64;
+    if let Some(byte) = n.checked_sub(1).filter(|&byte| byte < 256) {
+        return Case { bytes: vec![byte as u8], made_wrong: None, what: "one byte".to_string() };
+    }
+    if n == 0 {
+        let made_wrong = Some(Refusal { number: 3, place: 0 });
+        return Case { bytes: Vec::new(), made_wrong, what: "no byte".to_string() };
+    }
+    let mut random = Random::nth(seed, n);
+    let (turn, round) = (n % 20, (n / 20) as usize);
+    let kind = KINDS[round % KINDS.len()];
+    let whole = |what: String, job: Job| Case { bytes: job_bytes(&job), made_wrong: None, what };
+    match turn {
+        0..=8 => whole(format!("star {kind:?}"), generate::star(&mut random, kind)),
+        9 => whole("star of 64 columns and rows".to_string(), generate::full_star(&mut random)),
+        10 => whole(format!("small star {kind:?}"), generate::small_star(&mut random, kind)),
+        11..=13 => whole("near star".to_string(), generate::near_star(&mut random)),
+        14 => whole("any runs".to_string(), generate::any(&mut random)),
+        15..=17 => {
+            let way = (round * 3 + turn as usize - 15) % damage::WAYS;
+            let made = damage::damaged(&mut random, way);
+            Case { bytes: made.bytes, made_wrong: Some(made.refusal), what: made.what.to_string() }
+        }
+        18 => Case { bytes: damage::touched(&mut random), made_wrong: None, what: "touched book".to_string() },
+        _ => Case { bytes: damage::noise(&mut random), made_wrong: None, what: "noise".to_string() },
+    }
+}
+
+/// What was tried, and what was wrong.
+#[derive(Default)]
+pub struct Report {
+    /// The number of job books.
+    pub jobs: usize,
+    /// The number of calls.
+    pub calls: usize,
+    /// The number of accepted jobs by their number of runs.
+    pub accepted: BTreeMap<usize, usize>,
+    /// The number of refused jobs by refusal number.
+    pub refused: BTreeMap<i32, usize>,
+    /// The number of bytes of the longest plan.
+    pub longest_plan: usize,
+    /// What was wrong, in words, with the job that shows it.
+    pub faults: Vec<String>,
+}
+
+impl Report {
+    /// Adds what another report says.
+    pub fn add(&mut self, other: Report) {
+        self.jobs += other.jobs;
+        self.calls += other.calls;
+        self.longest_plan = self.longest_plan.max(other.longest_plan);
+        other.accepted.into_iter().for_each(|(runs, count)| *self.accepted.entry(runs).or_default() += count);
+        other.refused.into_iter().for_each(|(number, count)| *self.refused.entry(number).or_default() += count);
+        self.faults.extend(other.faults);
+    }
+
+    /// What of document 01 no job of this report tried: a refusal among 3 to 11, or a number of runs from 1 to 32. A report
+    /// of many jobs should have nothing here.
+    pub fn untried(&self) -> Vec<String> {
+        let refusals = (3..=11).filter(|number| !self.refused.contains_key(number)).map(|n| format!("refusal {n}"));
+        let runs = (1..=32).filter(|runs| !self.accepted.contains_key(runs)).map(|n| format!("a star of {n} runs"));
+        refusals.chain(runs).collect()
+    }
+}
+
+impl fmt::Display for Report {
+    fn fmt(&self, out: &mut fmt::Formatter) -> fmt::Result {
+        let accepted: usize = self.accepted.values().sum();
+        let full: usize = self.accepted.range(32..).map(|(_, count)| count).sum();
+        let refused: Vec<String> = self.refused.iter().map(|(number, count)| format!("{number}: {count}")).collect();
+        write!(
+            out,
+            "{} jobs, {} calls: {accepted} accepted ({full} of 32 runs, longest plan {} bytes)",
+            self.jobs, self.calls, self.longest_plan
+        )?;
+        write!(out, "; refused by number: {}; {} faults", refused.join(", "), self.faults.len())
+    }
+}
+
+/// What is due for a job: a plan that the judge passes, or a refusal.
+type Due = Result<Judge, Refusal>;
+
+/// Tries one case with every size of buffer, and adds what was found.
+pub fn try_case(caller: &mut dyn Caller, case: &Case, random: &mut Random, report: &mut Report) {
+    let mut faults = Vec::new();
+    let due = due(case, report, &mut faults);
+    let mut plan = Vec::new();
+    for size in SIZES {
+        let entry = random.bytes(size);
+        let mut out = entry.clone();
+        let called = caller.call(&case.bytes, &mut out);
+        report.calls += 1;
+        let mut found: Vec<String> = called.strayed.into_iter().collect();
+        match &due {
+            Ok(judge) if size >= PLAN_ROOM => {
+                found.extend(faults_of_plan(judge, called.answer, &entry, &out, &mut plan))
+            }
+            Err(refused) if size >= PLAN_ROOM => {
+                found.extend(faults_of_refusal(refused.number, called.answer, &entry, &out))
+            }
+            _ => found.extend(faults_of_refusal(2, called.answer, &entry, &out)),
+        }
+        faults.extend(found.iter().map(|fault| format!("buffer of {size}: {fault}")));
+    }
+    report.jobs += 1;
+    report.longest_plan = report.longest_plan.max(plan.len());
+    report.faults.extend(faults.iter().map(|fault| format!("{} ({}): {fault}", case.what, hex(&case.bytes))));
+}
+
+/// What is due for a case by reading it; a fault where it was made to be refused otherwise.
+fn due(case: &Case, report: &mut Report, faults: &mut Vec<String>) -> Due {
+    let due = refusal::surveyed(&case.bytes);
+    if let Some(made) = case.made_wrong
+        && due.as_ref().err() != Some(&made)
+    {
+        let read = due.as_ref().map_or_else(ToString::to_string, |_| "accepted".to_string());
+        faults.push(format!("the two readings of document 01 differ: made to be {made}, but read as {read}"));
+    }
+    match &due {
+        Ok(survey) => *report.accepted.entry(survey.job.runs.len()).or_default() += 1,
+        Err(refused) => *report.refused.entry(refused.number).or_default() += 1,
+    }
+    due.map(Judge::new)
+}
+
+/// What is wrong with an answer where a plan is due. `plan` is the last plan that was judged for this job, and becomes this one.
+fn faults_of_plan(judge: &Judge, answer: i32, entry: &[u8], out: &[u8], plan: &mut Vec<u8>) -> Vec<String> {
+    let Some(length) = usize::try_from(answer).ok().filter(|&length| length <= out.len()) else {
+        return vec![format!("the answer is {answer}, but a plan is due")];
+    };
+    let mut faults = Vec::new();
+    if out[length..] != entry[length..] {
+        faults.push("a byte behind the plan was changed".to_string());
+    }
+    if plan.is_empty() || plan[..] != out[..length] {
+        faults.extend(judge.faults(&out[..length]));
+        *plan = out[..length].to_vec();
+    }
+    faults
+}
+
+/// What is wrong with an answer where this refusal is due.
+fn faults_of_refusal(number: i32, answer: i32, entry: &[u8], out: &[u8]) -> Vec<String> {
+    let mut faults = Vec::new();
+    if answer != -number {
+        faults.push(format!("the answer is {answer} and should be {}", -number));
+    }
+    if out != entry {
+        faults.push("a refused call changed the plan buffer".to_string());
+    }
+    faults
+}
+
+/// Holds what a listing program printed for one case to what is due, and adds what was found. Unlike the C function, the
+/// listing tells the place of a refusal.
+pub fn try_listing(case: &Case, printed: &str, report: &mut Report) {
+    let mut faults = Vec::new();
+    match due(case, report, &mut faults) {
+        Err(refused) if printed != listing::of_refusal(refused) => {
+            faults.push(format!("the listing is `{}` and should be `{refused}`", printed.trim_end()));
+        }
+        Err(_) => {}
+        Ok(judge) => match listing::read_plan(printed) {
+            Ok(plan) => {
+                report.longest_plan = report.longest_plan.max(plan.bytes().len());
+                faults.extend(judge.faults(&plan.bytes()));
+            }
+            Err(fault) => faults.push(format!("no listing of a plan, but a plan is due: {fault}")),
+        },
+    }
+    report.jobs += 1;
+    report.calls += 1;
+    report.faults.extend(faults.iter().map(|fault| format!("{} ({}): {fault}", case.what, hex(&case.bytes))));
+}
+
+/// Tries the cases of a seed from `from` on, in steps of `step`, below `to`. Each caller thread takes its own residue.
+pub fn try_cases(caller: &mut dyn Caller, seed: u64, from: u64, to: u64, step: u64) -> Report {
+    let mut report = Report::default();
+    let mut n = from;
+    while n < to {
+        let before = report.faults.len();
+        try_case(caller, &case(seed, n), &mut Random::nth(!seed, n), &mut report);
+        for fault in &mut report.faults[before..] {
+            *fault = format!("seed {seed} job {n}: {fault}");
+        }
+        n += step;
+    }
+    report
+}

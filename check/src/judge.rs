@@ -1,0 +1,171 @@
+//! The judge of plan books: reads a job and a plan, and says in words everything that is wrong with the plan.
+
+use std::collections::BTreeSet;
+
+use crate::edges::EdgeSet;
+use crate::graph::Survey;
+use crate::grid::{Grid, Vertex};
+use crate::job::{Point, Run};
+use crate::plan_book::{PlanBook, RouteRecord};
+use crate::planner;
+use crate::refusal;
+
+/// The greatest length of a plan.
+pub const LONGEST_PLAN: usize = 36_822;
+
+/// A job with all that a plan of it is held against, worked out once.
+pub struct Judge {
+    survey: Survey,
+    centre: usize,
+    least: i64,
+}
+
+/// Everything that is wrong with a plan of a job, both given as bytes; nothing where the plan is right.
+pub fn judge(job: &[u8], plan: &[u8]) -> Vec<String> {
+    match refusal::surveyed(job) {
+        Ok(survey) => Judge::new(survey).faults(plan),
+        Err(refused) => vec![format!("no plan is due: the job is {refused} ({})", refusal::words(refused.number))],
+    }
+}
+
+impl Judge {
+    /// The judge of plans for this job, which is well formed and a star.
+    pub fn new(survey: Survey) -> Judge {
+        let plan = planner::plan_surveyed(&survey).expect("the job is a star");
+        Judge { survey, centre: plan.centre, least: plan.trench }
+    }
+
+    /// Everything that is wrong with these bytes as a plan of the job.
+    pub fn faults(&self, bytes: &[u8]) -> Vec<String> {
+        let mut faults = Vec::new();
+        if bytes.len() > LONGEST_PLAN {
+            faults.push(format!("the plan has {} bytes, more than {LONGEST_PLAN}", bytes.len()));
+        }
+        match PlanBook::read(bytes) {
+            Ok(book) => self.faults_of_book(&book, &mut faults),
+            Err(fault) => faults.push(fault),
+        }
+        faults
+    }
+
+    fn faults_of_book(&self, book: &PlanBook, faults: &mut Vec<String>) {
+        let mut same = |what: &str, said: i64, due: i64| {
+            if said != due {
+                faults.push(format!("{what} is {said} and should be {due}"));
+            }
+        };
+        let corners: usize = book.routes.iter().map(|route| route.corners.len()).sum();
+        same("the head's job number", book.job.into(), self.survey.job.number.into());
+        same("the head's number of runs", book.runs.into(), self.survey.job.runs.len() as i64);
+        same("the head's centre", book.centre.into(), self.survey.job.runs[self.centre].number.into());
+        same("the end's total of corners", book.total.into(), corners as i64);
+        same("the number of route records", book.routes.len() as i64, self.survey.job.runs.len() as i64);
+        let pits = book.routes.iter().flat_map(|route| &route.corners).collect::<BTreeSet<_>>().len();
+        same("pits", book.pits.into(), pits as i64);
+        let mut union = Some(EdgeSet::none(&self.survey.grid));
+        for (i, (run, route)) in self.survey.job.runs.iter().zip(&book.routes).enumerate() {
+            let dug = self.faults_of_route(run, self.survey.graph.meets(i), route, faults);
+            union = union.zip(dug).map(|(union, dug)| union.union(&dug));
+        }
+        if let Some(union) = union.filter(|_| book.routes.len() == self.survey.job.runs.len()) {
+            self.faults_of_union(book, union.length(&self.survey.grid), faults);
+        }
+    }
+
+    fn faults_of_union(&self, book: &PlanBook, length: i64, faults: &mut Vec<String>) {
+        let (trench, saved) = (i64::from(book.trench), i64::from(book.saved));
+        if trench != length {
+            faults.push(format!("trench is {trench}, but the routes dig {length}"));
+        }
+        if saved != self.survey.job.distance() - length {
+            faults.push(format!("saved is {saved}, but the routes save {}", self.survey.job.distance() - length));
+        }
+        if length != self.least {
+            faults.push(format!("the routes dig {length}, but {} would do", self.least));
+        }
+    }
+
+    /// Adds what is wrong with one route. Gives the edges that it digs, where its corners draw a path of the grid.
+    fn faults_of_route(
+        &self,
+        run: &Run,
+        meets: usize,
+        route: &RouteRecord,
+        faults: &mut Vec<String>,
+    ) -> Option<EdgeSet> {
+        let mut wrong = |text: String| faults.push(format!("run {}: {text}", run.number));
+        if route.run != run.number {
+            wrong(format!("its route record names run {}", route.run));
+        }
+        if usize::from(route.meets) != meets {
+            wrong(format!("meets is {} and should be {meets}", route.meets));
+        }
+        let corners = &route.corners;
+        if usize::from(route.count) != corners.len() {
+            wrong(format!("the record announces {} corners, but {} follow", route.count, corners.len()));
+        }
+        let (Some(&first), Some(&last)) = (corners.first(), corners.last()) else {
+            wrong("it has no corner".to_string());
+            return None;
+        };
+        if first != run.first {
+            wrong(format!("its first corner {} is not its first point {}", show(first), show(run.first)));
+        }
+        if last != run.second {
+            wrong(format!("its last corner {} is not its second point {}", show(last), show(run.second)));
+        }
+        let drawn = self.faults_of_pieces(corners, &mut wrong);
+        let length: i64 = corners.windows(2).map(|pair| pair[0].distance(pair[1])).sum();
+        if length != run.distance() {
+            wrong(format!("its route is {length} long, but its points are {} apart", run.distance()));
+        }
+        drawn
+    }
+
+    /// Adds what is wrong with the straight pieces between corners. Gives their edges where all are pieces of grid lines.
+    fn faults_of_pieces(&self, corners: &[Point], wrong: &mut impl FnMut(String)) -> Option<EdgeSet> {
+        let mut dug = Some(EdgeSet::none(&self.survey.grid));
+        for &corner in corners.iter().filter(|&&corner| self.survey.grid.vertex(corner).is_none()) {
+            wrong(format!("its corner {} is no crossing of survey lines", show(corner)));
+            dug = None;
+        }
+        for pair in corners.windows(2) {
+            let (p, q) = (pair[0], pair[1]);
+            if p == q {
+                wrong(format!("its corner {} stands twice", show(p)));
+            } else if p.x != q.x && p.y != q.y {
+                wrong(format!("its piece from {} to {} is not straight", show(p), show(q)));
+                dug = None;
+            }
+            if let (Some(set), Some(u), Some(v)) = (&mut dug, self.survey.grid.vertex(p), self.survey.grid.vertex(q)) {
+                add_piece(&self.survey.grid, set, u, v);
+            }
+        }
+        for three in corners.windows(3) {
+            let (p, q, r) = (three[0], three[1], three[2]);
+            if p.x == q.x && q.x == r.x || p.y == q.y && q.y == r.y {
+                wrong(format!("it does not turn at its corner {}", show(q)));
+            }
+        }
+        dug
+    }
+}
+
+/// Adds the edges between two vertices of one line.
+fn add_piece(grid: &Grid, set: &mut EdgeSet, u: Vertex, v: Vertex) {
+    let (low, high) = if u <= v { (u, v) } else { (v, u) };
+    let mut here = low;
+    while here != high {
+        let next = if here.row == high.row {
+            Vertex { column: here.column + 1, ..here }
+        } else {
+            Vertex { row: here.row + 1, ..here }
+        };
+        set.add(grid.edge_between(here, next));
+        here = next;
+    }
+}
+
+fn show(p: Point) -> String {
+    format!("{},{}", p.x, p.y)
+}

@@ -1,0 +1,73 @@
+//! The independent planner: the least plan of a star, by enumeration where the job is small and by the in-out graph where it
+//! is not, and all figures of a plan measured on its routes.
+
+use std::collections::BTreeSet;
+
+use crate::edges::EdgeSet;
+use crate::enumerate::{self, Path};
+use crate::graph::Survey;
+use crate::grid::{Grid, Vertex};
+use crate::in_out;
+use crate::job::{Job, Point};
+
+/// A plan: one route a run, in job order, each given by its corners.
+#[derive(Clone, Debug, PartialEq, Eq)]
+pub struct Plan {
+    /// The index of the centre in the job.
+    pub centre: usize,
+    /// Each run's meets figure.
+    pub meets: Vec<usize>,
+    /// Each route's corners: the first point, each vertex at which it turns, the second point; one corner where they coincide.
+    pub corners: Vec<Vec<Point>>,
+    /// The length of the routes' union.
+    pub trench: i64,
+    /// The sum of the runs' distances less trench.
+    pub saved: i64,
+    /// The number of distinct corners.
+    pub pits: usize,
+}
+
+/// The number of grid edges up to which `plan` looks whether a job is small enough to enumerate.
+const FEW_EDGES: usize = 60;
+/// The number of sequences of routes up to which it then tries them all.
+const FEW_SEQUENCES: usize = 2_000;
+
+/// A least plan of the job, or none where it is no star.
+pub fn plan(job: &Job) -> Option<Plan> {
+    plan_surveyed(&Survey::of(job.clone()))
+}
+
+/// The same for a job that is surveyed already.
+pub fn plan_surveyed(survey: &Survey) -> Option<Plan> {
+    let Survey { job, grid, graph } = survey;
+    let centre = graph.centre()?;
+    let by_graph = in_out::least(job, centre);
+    let small = grid.edge_count() <= FEW_EDGES;
+    let least = match small.then(|| enumerate::all(job, grid, FEW_SEQUENCES)).flatten() {
+        Some(by_enumeration) => {
+            assert_eq!(by_enumeration.trench, by_graph.trench, "enumeration and in-out graph agree on {job:?}");
+            by_enumeration
+        }
+        None => by_graph,
+    };
+    let plan = drawn(survey, centre, &least.routes);
+    assert_eq!(plan.trench, least.trench, "the figure is the length of the union");
+    Some(plan)
+}
+
+/// The plan of these routes, its figures measured on them.
+pub fn drawn(survey: &Survey, centre: usize, routes: &[Path]) -> Plan {
+    let Survey { job, grid, graph } = survey;
+    let union = routes.iter().fold(EdgeSet::none(grid), |union, path| union.union(&EdgeSet::along(grid, path)));
+    let trench = union.length(grid);
+    let corners: Vec<Vec<Point>> = routes.iter().map(|path| corners(grid, path)).collect();
+    let pits = corners.iter().flatten().collect::<BTreeSet<_>>().len();
+    Plan { centre, meets: graph.figures(), corners, trench, saved: job.distance() - trench, pits }
+}
+
+/// The corners of a path: its first vertex, those at which it turns, its last.
+fn corners(grid: &Grid, path: &[Vertex]) -> Vec<Point> {
+    let turns = |i: usize| (path[i - 1].row == path[i].row) != (path[i].row == path[i + 1].row);
+    let last = path.len() - 1;
+    (0..path.len()).filter(|&i| i == 0 || i == last || turns(i)).map(|i| grid.point(path[i])).collect()
+}

@@ -1,0 +1,128 @@
+//! The refusals (01, "What a call says and leaves"): reading a job book, and the number and place of what is wrong with it.
+
+use std::fmt;
+
+use crate::book::{END, JOB_HEAD, RUN};
+use crate::graph::Survey;
+use crate::job::{FAR, Job, MOST_RUNS, Point, Run, TOP_NUMBER};
+
+/// The least plan buffer that is accepted, in bytes.
+pub const PLAN_ROOM: usize = 40_960;
+
+/// A refusal's number and place.
+#[derive(Clone, Copy, Debug, PartialEq, Eq)]
+pub struct Refusal {
+    /// 1 to 11.
+    pub number: i32,
+    /// The offset of the record at fault, or what document 01 says instead.
+    pub place: usize,
+}
+
+impl fmt::Display for Refusal {
+    fn fmt(&self, out: &mut fmt::Formatter) -> fmt::Result {
+        write!(out, "refused {} at {}", self.number, self.place)
+    }
+}
+
+/// What a number means, in the words of document 01.
+pub fn words(number: i32) -> &'static str {
+    match number {
+        1 => "work sheet under 16,384 words",
+        2 => "plan buffer under 40,960 bytes",
+        3 => "the bytes end inside a record, or before an end record",
+        4 => "unknown kind of record",
+        5 => "first record no head, a second head, or a byte after the end record",
+        6 => "the end's count differs from the runs read",
+        7 => "run number 0, above 9,999 or not above the one before",
+        8 => "coordinate outside -1,000,000 to 1,000,000",
+        9 => "a 33rd run",
+        10 => "an end with no runs",
+        11 => "well formed, but no star",
+        _ => "no refusal of document 01",
+    }
+}
+
+/// The length of a record of this kind, with its kind byte; none for an unknown kind.
+pub fn record_length(kind: u8) -> Option<usize> {
+    match kind {
+        JOB_HEAD => Some(1 + 4),
+        RUN => Some(1 + 2 + 4 * 4),
+        END => Some(1 + 2),
+        _ => None,
+    }
+}
+
+fn half(body: &[u8], at: usize) -> u16 {
+    u16::from_le_bytes([body[at], body[at + 1]])
+}
+
+fn word(body: &[u8], at: usize) -> u32 {
+    u32::from_le_bytes([body[at], body[at + 1], body[at + 2], body[at + 3]])
+}
+
+fn point(body: &[u8], at: usize) -> Point {
+    Point::new(word(body, at) as i32, word(body, at + 4) as i32)
+}
+
+/// The job of a job book, or the first of the refusals 3 to 10 that applies: records front to back, and within a record 4,
+/// 3, 5, 9, 7, 8, 6, 10. The end record is judged before a byte after it.
+pub fn read(bytes: &[u8]) -> Result<Job, Refusal> {
+    let mut number = None;
+    let mut runs: Vec<Run> = Vec::new();
+    let mut place = 0;
+    loop {
+        let refuse = |number: i32| Err(Refusal { number, place });
+        let Some(&kind) = bytes.get(place) else { return refuse(3) };
+        let Some(length) = record_length(kind) else { return refuse(4) };
+        let Some(body) = bytes.get(place + 1..place + length) else { return refuse(3) };
+        if (kind == JOB_HEAD) != (place == 0) {
+            return refuse(5);
+        }
+        match kind {
+            JOB_HEAD => number = Some(word(body, 0)),
+            RUN => {
+                if runs.len() == MOST_RUNS {
+                    return refuse(9);
+                }
+                let run = Run { number: half(body, 0), first: point(body, 2), second: point(body, 10) };
+                let before = runs.last().map_or(0, |run| run.number);
+                if run.number <= before || i32::from(run.number) > TOP_NUMBER {
+                    return refuse(7);
+                }
+                let in_range = |p: Point| [p.x, p.y].iter().all(|c| (-FAR..=FAR).contains(c));
+                if !in_range(run.first) || !in_range(run.second) {
+                    return refuse(8);
+                }
+                runs.push(run);
+            }
+            _ => {
+                if usize::from(half(body, 0)) != runs.len() {
+                    return refuse(6);
+                }
+                if runs.is_empty() {
+                    return refuse(10);
+                }
+                let after = place + length;
+                if after < bytes.len() {
+                    return Err(Refusal { number: 5, place: after });
+                }
+                return Ok(Job { number: number.expect("the first record is a head"), runs });
+            }
+        }
+        place += length;
+    }
+}
+
+/// What is due for a job book: the job, well formed and a star, or its refusal among 3 to 11.
+pub fn verdict(bytes: &[u8]) -> Result<Job, Refusal> {
+    surveyed(bytes).map(|survey| survey.job)
+}
+
+/// The same, with all that was worked out for it.
+pub fn surveyed(bytes: &[u8]) -> Result<Survey, Refusal> {
+    let survey = Survey::of(read(bytes)?);
+    match survey.graph.centre() {
+        Some(_) => Ok(survey),
+        None => Err(Refusal { number: 11, place: 0 }),
+    }
+}

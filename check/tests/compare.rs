@@ -1,0 +1,141 @@
+//! The comparison passes a right planner, and notices each wrong one.
+
+use trench_check::compare::{Called, Caller, Report, case, try_cases, try_listing};
+use trench_check::listing;
+use trench_check::plan_book::PlanBook;
+use trench_check::planner;
+use trench_check::refusal::{self, PLAN_ROOM};
+
+/// A planner in Rust, called with exactly the lent slices.
+struct Plain<F>(F);
+
+impl<F: FnMut(&[u8], &mut [u8]) -> i32> Caller for Plain<F> {
+    fn call(&mut self, job: &[u8], out: &mut [u8]) -> Called {
+        Called { answer: (self.0)(job, out), strayed: None }
+    }
+}
+
+/// The independent planner with the interface of `trench_plan`.
+fn right(job: &[u8], out: &mut [u8]) -> i32 {
+    if out.len() < PLAN_ROOM {
+        return -2;
+    }
+    match refusal::verdict(job) {
+        Err(refused) => -refused.number,
+        Ok(job) => write(&PlanBook::of(&job, &planner::plan(&job).expect("a star")), out),
+    }
+}
+
+fn write(book: &PlanBook, out: &mut [u8]) -> i32 {
+    let bytes = book.bytes();
+    out[..bytes.len()].copy_from_slice(&bytes);
+    bytes.len() as i32
+}
+
+const JOBS: u64 = 450;
+
+fn report(planner: impl FnMut(&[u8], &mut [u8]) -> i32) -> Report {
+    try_cases(&mut Plain(planner), 11, 0, JOBS, 1)
+}
+
+fn assert_noticed(planner: impl FnMut(&[u8], &mut [u8]) -> i32, words: &str) {
+    let faults = report(planner).faults;
+    assert!(faults.iter().any(|fault| fault.contains(words)), "`{words}` is in none of {} faults", faults.len());
+}
+
+/// The right answer with the plan changed.
+fn changed(job: &[u8], out: &mut [u8], change: impl FnOnce(&mut PlanBook)) -> i32 {
+    let answer = right(job, out);
+    if answer < 0 {
+        return answer;
+    }
+    let mut book = PlanBook::read(&out[..answer as usize]).expect("a plan was written");
+    change(&mut book);
+    write(&book, out)
+}
+
+#[test]
+fn a_right_planner_passes() {
+    let report = report(right);
+    assert_eq!(report.faults, Vec::<String>::new());
+    assert_eq!((report.jobs, report.calls), (JOBS as usize, 5 * JOBS as usize));
+}
+
+#[test]
+fn wrong_answers_are_noticed() {
+    assert_noticed(|_, _| -11, "a plan is due");
+    assert_noticed(|_, _| 0, "the answer is 0 and should be -2");
+    assert_noticed(
+        |job, out| if out.len() < 40_000 { -2 } else { right(job, &mut out.to_vec()) },
+        "the plan starts with kind",
+    );
+    assert_noticed(|job, out| right(job, out).max(-10), "the answer is -10 and should be -11");
+    assert_noticed(|job, out| if job.is_empty() { -4 } else { right(job, out) }, "the answer is -4 and should be");
+}
+
+#[test]
+fn wrong_bytes_are_noticed() {
+    let touch_refused = |job: &[u8], out: &mut [u8]| {
+        let answer = right(job, out);
+        if answer < 0 && !out.is_empty() {
+            out[0] ^= 1;
+        }
+        answer
+    };
+    assert_noticed(touch_refused, "a refused call changed the plan buffer");
+    let touch_behind = |job: &[u8], out: &mut [u8]| {
+        let answer = right(job, out);
+        if answer > 0 {
+            out[answer as usize] ^= 1;
+        }
+        answer
+    };
+    assert_noticed(touch_behind, "a byte behind the plan was changed");
+    assert_noticed(|job, out| changed(job, out, |book| book.trench += 1), "but the routes dig");
+    assert_noticed(|job, out| changed(job, out, |book| book.pits += 1), "pits is");
+    assert_noticed(|job, out| changed(job, out, |book| book.routes[0].meets = 0), "meets is 0 and should be");
+}
+
+#[test]
+fn a_wrong_order_of_refusals_is_noticed() {
+    let buffer_last = |job: &[u8], out: &mut [u8]| match refusal::verdict(job) {
+        Err(refused) => -refused.number,
+        Ok(_) => right(job, out),
+    };
+    assert_noticed(buffer_last, "and should be -2");
+    let seven_for_eight = |job: &[u8], out: &mut [u8]| match right(job, out) {
+        -8 => -7,
+        answer => answer,
+    };
+    assert_noticed(seven_for_eight, "the answer is -7 and should be -8");
+}
+
+/// The listing by the independent planner.
+fn right_listing(job: &[u8]) -> String {
+    match refusal::verdict(job) {
+        Err(refused) => listing::of_refusal(refused),
+        Ok(job) => listing::of_plan(&PlanBook::of(&job, &planner::plan(&job).expect("a star"))),
+    }
+}
+
+fn listing_faults(list: impl Fn(&[u8]) -> String) -> Vec<String> {
+    let mut report = Report::default();
+    for n in 0..JOBS {
+        let case = case(15, n);
+        try_listing(&case, &list(&case.bytes), &mut report);
+    }
+    report.faults
+}
+
+#[test]
+fn listings_are_held_to_what_is_due() {
+    let assert_noticed = |words: &str, list: &dyn Fn(String) -> String| {
+        let faults = listing_faults(|job| list(right_listing(job)));
+        assert!(faults.iter().any(|fault| fault.contains(words)), "`{words}` is in none of {} faults", faults.len());
+    };
+    assert_eq!(listing_faults(right_listing), Vec::<String>::new());
+    assert_noticed("and should be `refused 3 at", &|text| text.replace("refused 3 at ", "refused 3 at 1"));
+    assert_noticed("and should be `refused 11 at 0`", &|text| text.trim_end().to_string());
+    assert_noticed("no listing of a plan", &|text| text.replace("trench ", "trench  "));
+    assert_noticed("but the routes dig", &|text| text.replace("trench 100 ", "trench 101 "));
+}

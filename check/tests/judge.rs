@@ -1,0 +1,192 @@
+//! The judge finds nothing wrong with right plans, and catches every spoilt one, in words that say what was spoilt.
+
+use trench_check::book::job_bytes;
+use trench_check::enumerate::Path;
+use trench_check::generate::{self, KINDS};
+use trench_check::graph::Survey;
+use trench_check::grid::Vertex;
+use trench_check::job::{Job, Point};
+use trench_check::judge::judge;
+use trench_check::line;
+use trench_check::plan_book::PlanBook;
+use trench_check::planner;
+use trench_check::random::Random;
+
+fn job(words: &str) -> Job {
+    line::parse(words, 7).expect("a job line").expect("a job")
+}
+
+fn book(job: &Job) -> PlanBook {
+    PlanBook::of(job, &planner::plan(job).expect("a star"))
+}
+
+/// Document 01's example; its least plan is the only one.
+fn example() -> (Job, PlanBook) {
+    let job = job("0,0 40,30; 0,10 40,10; 20,20 20,50");
+    let book = book(&job);
+    (job, book)
+}
+
+/// What the judge says of the example's plan once it was spoilt.
+fn verdict_on(spoil: impl FnOnce(&mut PlanBook)) -> String {
+    let (job, mut book) = example();
+    spoil(&mut book);
+    judge(&job_bytes(&job), &book.bytes()).join("\n")
+}
+
+fn assert_says(verdict: &str, words: &str) {
+    assert!(verdict.contains(words), "`{words}` is not in: {verdict}");
+}
+
+#[test]
+fn right_plans_pass() {
+    for n in 0..1_500 {
+        let kind = KINDS[n % KINDS.len()];
+        let job = generate::star(&mut Random::nth(77, n as u64), kind);
+        let faults = judge(&job_bytes(&job), &book(&job).bytes());
+        assert!(faults.is_empty(), "{kind:?} {}: {faults:?}", line::show(&job));
+    }
+}
+
+#[test]
+fn figures_off_by_one_are_caught() {
+    assert_says(&verdict_on(|book| book.trench += 1), "trench is 101, but the routes dig 100");
+    assert_says(&verdict_on(|book| book.trench -= 1), "trench is 99, but the routes dig 100");
+    assert_says(&verdict_on(|book| book.saved += 1), "saved is 41, but the routes save 40");
+    assert_says(&verdict_on(|book| book.pits -= 1), "pits is 5 and should be 6");
+    assert_says(&verdict_on(|book| book.centre += 1), "the head's centre is 2 and should be 1");
+    assert_says(&verdict_on(|book| book.runs += 1), "the head's number of runs is 4 and should be 3");
+    assert_says(&verdict_on(|book| book.job ^= 1), "the head's job number is 6 and should be 7");
+    assert_says(&verdict_on(|book| book.total += 1), "the end's total of corners is 9 and should be 8");
+    assert_says(&verdict_on(|book| book.routes[1].meets += 1), "run 2: meets is 2 and should be 1");
+    assert_says(&verdict_on(|book| book.routes[1].count += 1), "run 2: the record announces 3 corners, but 2 follow");
+    assert_says(&verdict_on(|book| book.routes[1].run = 9), "run 2: its route record names run 9");
+}
+
+#[test]
+fn moved_corners_are_caught() {
+    let moved = verdict_on(|book| book.routes[0].corners[1] = Point::new(0, 11));
+    assert_says(&moved, "run 1: its corner 0,11 is no crossing of survey lines");
+    assert_says(&moved, "run 1: its piece from 0,11 to 40,10 is not straight");
+    let to_a_crossing = verdict_on(|book| book.routes[0].corners[1] = Point::new(0, 20));
+    assert_says(&to_a_crossing, "run 1: its piece from 0,20 to 40,10 is not straight");
+    let start = verdict_on(|book| book.routes[0].corners[0] = Point::new(20, 0));
+    assert_says(&start, "run 1: its first corner 20,0 is not its first point 0,0");
+    let end = verdict_on(|book| book.routes[2].corners[1] = Point::new(20, 30));
+    assert_says(&end, "run 3: its last corner 20,30 is not its second point 20,50");
+    let detour = verdict_on(|book| {
+        let out_and_back =
+            [Point::new(20, 20), Point::new(20, 0), Point::new(40, 0), Point::new(40, 50), Point::new(20, 50)];
+        book.routes[2].corners = out_and_back.to_vec();
+        book.routes[2].count = 5;
+        book.total += 3;
+    });
+    assert_says(&detour, "run 3: its route is 110 long, but its points are 30 apart");
+}
+
+#[test]
+fn corners_that_are_none_are_caught() {
+    let straight_on = verdict_on(|book| {
+        book.routes[1].corners.insert(1, Point::new(20, 10));
+        book.routes[1].count += 1;
+        book.total += 1;
+    });
+    assert_says(&straight_on, "run 2: it does not turn at its corner 20,10");
+    let twice = verdict_on(|book| {
+        book.routes[1].corners.push(Point::new(40, 10));
+        book.routes[1].count += 1;
+        book.total += 1;
+    });
+    assert_says(&twice, "run 2: its corner 40,10 stands twice");
+    let none = verdict_on(|book| {
+        book.routes[1].corners.clear();
+        book.routes[1].count = 0;
+        book.total -= 2;
+    });
+    assert_says(&none, "run 2: it has no corner");
+}
+
+#[test]
+fn swapped_and_missing_routes_are_caught() {
+    let swapped = verdict_on(|book| {
+        let (first, second) = (book.routes[0].corners.clone(), book.routes[1].corners.clone());
+        book.routes[0].corners = second;
+        book.routes[1].corners = first;
+    });
+    assert_says(&swapped, "run 1: its first corner 0,10 is not its first point 0,0");
+    assert_says(&verdict_on(|book| book.routes.swap(1, 2)), "run 2: its route record names run 3");
+    assert_says(
+        &verdict_on(|book| book.routes[0].corners.reverse()),
+        "run 1: its first corner 40,30 is not its first point 0,0",
+    );
+    let missing = verdict_on(|book| drop(book.routes.pop()));
+    assert_says(&missing, "the number of route records is 2 and should be 3");
+}
+
+/// Every run along its row and then along its column, with all figures measured on these routes.
+fn one_bend_each(job: &Job) -> PlanBook {
+    let survey = Survey::of(job.clone());
+    let path = |first: Vertex, second: Vertex| -> Path {
+        let mut path = vec![first];
+        let mut here = first;
+        while here.column != second.column {
+            here.column = if here.column < second.column { here.column + 1 } else { here.column - 1 };
+            path.push(here);
+        }
+        while here.row != second.row {
+            here.row = if here.row < second.row { here.row + 1 } else { here.row - 1 };
+            path.push(here);
+        }
+        path
+    };
+    let vertex = |p: Point| survey.grid.vertex(p).expect("a run's points are vertices");
+    let routes: Vec<Path> = job.runs.iter().map(|run| path(vertex(run.first), vertex(run.second))).collect();
+    let centre = survey.graph.centre().expect("a star");
+    PlanBook::of(job, &planner::drawn(&survey, centre, &routes))
+}
+
+#[test]
+fn a_longer_union_is_caught() {
+    let (example, _) = example();
+    let faults = judge(&job_bytes(&example), &one_bend_each(&example).bytes());
+    assert_eq!(faults, ["the routes dig 140, but 100 would do"]);
+    let mut longer = 0;
+    for n in 0..500 {
+        let job = generate::star(&mut Random::nth(78, n), KINDS[n as usize % KINDS.len()]);
+        let (best, other) = (book(&job).trench, one_bend_each(&job));
+        let faults = judge(&job_bytes(&job), &other.bytes());
+        if other.trench > best {
+            longer += 1;
+            assert_eq!(faults, [format!("the routes dig {}, but {best} would do", other.trench)]);
+        } else {
+            assert!(faults.is_empty());
+        }
+    }
+    assert!(longer > 200, "most stars have plans that dig too much: {longer}");
+}
+
+#[test]
+fn every_changed_byte_is_caught() {
+    for n in 0..150 {
+        let mut random = Random::nth(79, n);
+        let job = generate::small_star(&mut random, KINDS[n as usize % KINDS.len()]);
+        let bytes = book(&job).bytes();
+        for at in 0..bytes.len() {
+            let mut changed = bytes.clone();
+            changed[at] ^= 1 << random.below(8);
+            assert!(!judge(&job_bytes(&job), &changed).is_empty(), "byte {at} of the plan of {}", line::show(&job));
+        }
+    }
+}
+
+#[test]
+fn broken_books_are_caught() {
+    let (job, book) = example();
+    let (job, whole) = (job_bytes(&job), book.bytes());
+    for length in 0..whole.len() {
+        assert!(!judge(&job, &whole[..length]).is_empty(), "cut to {length}");
+    }
+    let more = [&whole[..], &[0]].concat();
+    assert_says(&judge(&job, &more).join("\n"), "a byte after the end record");
+    assert_says(&judge(&job[..10], &whole).join("\n"), "no plan is due: the job is refused 3 at 5");
+}

@@ -1,0 +1,107 @@
+//! Typed jobs: what is accepted, and that each error names its line.
+
+use trench_check::book::job_bytes;
+use trench_check::generate::{self, KINDS};
+use trench_check::job::{Job, Point, Run};
+use trench_check::listing;
+use trench_check::plan_book::PlanBook;
+use trench_check::planner;
+use trench_check::random::Random;
+use trench_check::refusal;
+use trench_check::text::{parse, show, why_no_star};
+
+fn errors(text: &str) -> String {
+    let errors = parse(text).expect_err("a wrong text");
+    errors.iter().map(ToString::to_string).collect::<Vec<_>>().join("\n")
+}
+
+#[test]
+fn a_typed_job() {
+    let typed = parse("# three wells\njob 7\n\n1 0,0 40,30   # the long one\n2 0,10 40,-10\n").expect("a right text");
+    let first = Run { number: 1, first: Point::new(0, 0), second: Point::new(40, 30) };
+    let second = Run { number: 2, first: Point::new(0, 10), second: Point::new(40, -10) };
+    assert_eq!(typed.job, Job { number: 7, runs: vec![first, second] });
+    assert_eq!(typed.lines, [4, 5]);
+}
+
+#[test]
+fn what_is_shown_is_read_back() {
+    for n in 0..500 {
+        let job = generate::star(&mut Random::nth(6, n), KINDS[n as usize % KINDS.len()]);
+        assert_eq!(parse(&show(&job)).map(|typed| typed.job), Ok(job));
+    }
+}
+
+#[test]
+fn accepted_texts_are_well_formed_jobs() {
+    for n in 0..500 {
+        let job = generate::any(&mut Random::nth(7, n));
+        let typed = parse(&show(&job)).expect("a well-formed job");
+        assert_eq!(refusal::read(&job_bytes(&typed.job)), Ok(job));
+    }
+}
+
+#[test]
+fn errors_name_their_lines() {
+    assert_eq!(errors(""), "line 1: nothing is typed; a job is wanted");
+    assert_eq!(errors("job 7\n\n# nothing\n"), "line 1: the job has no run (refusal 10)");
+    assert_eq!(errors("1 0,0 1,1\n"), "line 1: the job's number is wanted first, as in `job 7`");
+    assert_eq!(errors("job\n1 0,0 1,1\n"), "line 1: one number is wanted after `job`, as in `job 7`");
+    assert_eq!(errors("job -1\n"), "line 1: `-1` is no job number; one from 0 to 4294967295 is wanted");
+    assert_eq!(errors("job 7\njob 8\n1 0,0 1,1"), "line 2: a second `job` line; a text holds one job");
+    assert_eq!(
+        errors("job 7\n1 0,0\n"),
+        "line 2: a run is its number and two points, as in `12 0,0 40,30`; this line has 2 parts"
+    );
+    assert_eq!(errors("job 7\nx 0,0 1,1\n"), "line 2: `x` is no run number; a whole number is wanted");
+    assert_eq!(errors("job 7\n0 0,0 1,1\n"), "line 2: run number 0 is not from 1 to 9999 (refusal 7)");
+    assert_eq!(
+        errors("job 7\n1 0,0 1,1\n\n1 0,0 1,1\n"),
+        "line 4: run number 1 is not above 1, the one before (refusal 7)"
+    );
+    assert_eq!(
+        errors("job 7\n1 0,0 1,\n"),
+        "line 2: `1,` is no point; two whole numbers with a comma between are wanted, as in `40,-30`"
+    );
+    assert_eq!(
+        errors("job 7\n1 0,0 1;1\n"),
+        "line 2: `1;1` is no point; two whole numbers with a comma between are wanted, as in `40,-30`"
+    );
+    assert_eq!(
+        errors("job 7\n1 0,0 +1,1\n"),
+        "line 2: `+1,1` is no point; two whole numbers with a comma between are wanted, as in `40,-30`"
+    );
+    assert_eq!(
+        errors("job 7\n1 0,0 1000001,1\n"),
+        "line 2: coordinate 1000001 is not from -1000000 to 1000000 (refusal 8)"
+    );
+    assert_eq!(
+        errors("job 7\n1 0,x 1,1\n2 0,0 1\n"),
+        "line 2: `0,x` is no point; two whole numbers with a comma between are wanted, as in `40,-30`\nline 3: `1` is no point; two whole numbers with a comma between are wanted, as in `40,-30`"
+    );
+    let many: String = (1..=33).map(|n| format!("{n} 0,0 1,1\n")).collect();
+    assert_eq!(errors(&format!("job 7\n{many}")), "line 34: a 33rd run; a job has at most 32 (refusal 9)");
+}
+
+#[test]
+fn why_a_job_is_no_star() {
+    let why = |text: &str| why_no_star(&parse(text).expect("a right text"));
+    assert_eq!(
+        why("job 7\n1 0,0 3,3\n2 3,3 5,5\n"),
+        "with run 1 (line 2) as the centre: run 1 (line 2) does not meet run 2 (line 3)"
+    );
+    assert_eq!(
+        why("job 7\n1 0,0 3,4\n2 0,0 3,4\n\n3 0,0 3,4\n"),
+        "with run 1 (line 2) as the centre: run 2 (line 3) meets run 3 (line 5)"
+    );
+}
+
+#[test]
+fn the_listing_of_document_01() {
+    let job = parse("job 7\n1 0,0 40,30\n2 0,10 40,10\n3 20,20 20,50\n").expect("a right text").job;
+    let book = PlanBook::of(&job, &planner::plan(&job).expect("a star"));
+    let text = "job 7 runs 3 centre 1 trench 100 saved 40 pits 6\nroute 1 meets 2 corners 4: 0,0 0,10 40,10 40,30\nroute 2 meets 1 corners 2: 0,10 40,10\nroute 3 meets 1 corners 2: 20,20 20,50\n";
+    assert_eq!(listing::of_plan(&book), text);
+    assert_eq!(listing::read_plan(text), Ok(book));
+    assert_eq!(listing::of_refusal(refusal::Refusal { number: 11, place: 0 }), "refused 11 at 0\n");
+}

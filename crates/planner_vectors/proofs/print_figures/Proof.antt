@@ -1,0 +1,63 @@
+-- `planner_vectors::print_figures` is safe and ends: every record has a byte.
+use Prim.Native.Nat.{_-_}
+use borrow.Author.Needs.{needs}
+use lib.ListN.{length}
+use Rattle.planner_vectors.proofs.print_figures.Statement.{statement}
+use Rattle.planner_vectors.proofs.print_figures.Tie as tie
+
+abbrev Inv-loop : tie.InvT-loop
+Inv-loop plan at₀ at = Unit {0}
+
+abbrev μ-loop : tie.MeasureT-loop
+μ-loop plan at₀ at = length plan - at
+
+loop-holds : tie.Need-loop-holds Inv-loop μ-loop
+loop-holds c = search needs
+
+sub-print-record : tie.Need-sub-print-record Inv-loop μ-loop
+sub-print-record c = search needs
+
+part-print-record-start : tie.Need-part-print-record-start Inv-loop μ-loop
+part-print-record-start c = search needs
+
+part-print-record-end : tie.Need-part-print-record-end Inv-loop μ-loop
+part-print-record-end c = search needs
+
+print-record-requires : tie.Need-print-record-requires Inv-loop μ-loop
+print-record-requires c κs = search needs
+
+sub-if1 : tie.Need-sub-if1 Inv-loop μ-loop
+sub-if1 c = search needs
+
+returns : tie.Need-returns Inv-loop μ-loop
+returns c = search needs
+
+add-at : tie.Need-add-at Inv-loop μ-loop
+add-at c = search needs
+
+loop-less : tie.Need-loop-less Inv-loop μ-loop
+loop-less c = search needs
+
+loop-again : tie.Need-loop-again Inv-loop μ-loop
+loop-again c = search needs
+
+returns-2 : tie.Need-returns-2 Inv-loop μ-loop
+returns-2 c = search needs
+
+pub print-figures-spec : {M : Type 1} → statement M
+print-figures-spec =
+    tie.close
+    (tie.spec
+    Inv-loop
+    μ-loop
+    loop-holds
+    sub-print-record
+    part-print-record-start
+    part-print-record-end
+    print-record-requires
+    sub-if1
+    returns
+    add-at
+    loop-less
+    loop-again
+    returns-2)

@@ -1,0 +1,586 @@
+/* The map screen in little: reads a job book, has it planned, and draws the plan as SVG.
+ *
+ *   map JOB > plan.svg       a file, or - for standard input
+ *
+ * Exit status 0: drawn. 1: the job was refused, and the refusal is told on standard error. 2: nothing could be read or written.
+ */
+#include <inttypes.h>
+#include <stdbool.h>
+#include <stdio.h>
+#include <stdlib.h>
+#include <string.h>
+
+#include "trench.h"
+
+enum { MOST_LINES = 64, MOST_CORNERS = 127, JOB_ROOM = 640, REFUSED = 1, FAILED = 2 };
+enum { PLAN_HEAD = 0x50, ROUTE = 0x4E, CORNER = 0x43, END = 0x5A };
+
+struct point {
+    int32_t x, y;
+};
+
+struct route {
+    unsigned run, meets, corners;
+    struct point corner[MOST_CORNERS];
+};
+
+struct plan {
+    uint32_t job, trench, saved;
+    unsigned runs, pits, centre;
+    struct route route[TRENCH_MOST_RUNS];
+};
+
+static void fail(const char *name, const char *what)
+{
+    fprintf(stderr, "map: %s: %s\n", name, what);
+    exit(FAILED);
+}
+
+/* ---- the job, and its refusal in words ---- */
+
+/* Reads up to JOB_ROOM bytes: more cannot change the answer, since a job has at most 616. */
+static size_t read_job(const char *name, uint8_t *job)
+{
+    bool standard = strcmp(name, "-") == 0;
+    FILE *file = standard ? stdin : fopen(name, "rb");
+    if (!file)
+        fail(name, "cannot be opened");
+    size_t length = fread(job, 1, JOB_ROOM, file);
+    if (ferror(file))
+        fail(name, "cannot be read");
+    if (!standard)
+        fclose(file);
+    return length;
+}
+
+static const char *words(int32_t number)
+{
+    static const char *const meaning[] = {
+        "no refusal",
+        "work words under 16,384",
+        "plan buffer under 40,960 bytes",
+        "the bytes end inside a record, or before an end record",
+        "unknown kind of record",
+        "first record no head, a second head, or a byte after the end record",
+        "the end's count differs from the runs read",
+        "run number 0, above 9,999 or not above the one before",
+        "coordinate outside -1,000,000 to 1,000,000",
+        "a 33rd run",
+        "an end with no runs",
+        "well formed, but no star",
+    };
+    size_t known = sizeof meaning / sizeof *meaning;
+    return number >= 0 && (size_t)number < known ? meaning[number] : "a refusal that this program does not know";
+}
+
+static int32_t answer(const uint8_t *job, size_t length)
+{
+    static uint8_t out[TRENCH_PLAN_ROOM];
+    return trench_plan(job, length, out, sizeof out);
+}
+
+/* The place of a refusal. The answer holds only its number, but answers for shorter jobs tell the place: records are judged
+ * front to back, so a job cut before its fault shows is refused as cut; and a record starts at p exactly if a byte of no kind,
+ * put there, is refused as an unknown kind. The fault is in the last record that starts so, or it is the first byte behind a
+ * whole job. */
+static size_t place_of(int32_t number, const uint8_t *job, size_t length)
+{
+    uint8_t shorter[JOB_ROOM + 1] = { 0 };
+    size_t place = 0;
+    if (number == TRENCH_NO_STAR || number == TRENCH_SHORT_BUFFER)
+        return 0;
+    for (size_t p = 0; p <= length; p++) {
+        int32_t cut = answer(shorter, p);
+        if (cut > 0 || cut == -TRENCH_NO_STAR)
+            return p;
+        if (cut != -TRENCH_CUT)
+            return place;
+        shorter[p] = 0;
+        if (answer(shorter, p + 1) == -TRENCH_UNKNOWN_KIND)
+            place = p;
+        if (p < length)
+            shorter[p] = job[p];
+    }
+    return place;
+}
+
+/* ---- the plan book ---- */
+
+struct reader {
+    const uint8_t *bytes;
+    size_t length, at;
+};
+
+static uint32_t take(struct reader *r, int count)
+{
+    uint32_t value = 0;
+    for (int i = 0; i < count; i++) {
+        if (r->at == r->length)
+            fail("plan", "ends too early");
+        value |= (uint32_t)r->bytes[r->at++] << (8 * i);
+    }
+    return value;
+}
+
+static int32_t take_signed(struct reader *r)
+{
+    uint32_t word = take(r, 4);
+    return word <= INT32_MAX ? (int32_t)word : -(int32_t)(UINT32_MAX - word) - 1;
+}
+
+static void expect(struct reader *r, uint32_t kind)
+{
+    if (take(r, 1) != kind)
+        fail("plan", "has a record of another kind than is due");
+}
+
+static void read_plan(const uint8_t *bytes, size_t length, struct plan *plan)
+{
+    struct reader r = { bytes, length, 0 };
+    expect(&r, PLAN_HEAD);
+    plan->job = take(&r, 4);
+    plan->runs = take(&r, 2);
+    plan->trench = take(&r, 4);
+    plan->saved = take(&r, 4);
+    plan->pits = take(&r, 2);
+    plan->centre = take(&r, 2);
+    if (plan->runs == 0 || plan->runs > TRENCH_MOST_RUNS)
+        fail("plan", "has no run, or too many");
+    for (unsigned i = 0; i < plan->runs; i++) {
+        struct route *route = &plan->route[i];
+        expect(&r, ROUTE);
+        route->run = take(&r, 2);
+        route->meets = take(&r, 2);
+        route->corners = take(&r, 2);
+        if (route->corners == 0 || route->corners > MOST_CORNERS)
+            fail("plan", "has a route with no corner, or too many");
+        for (unsigned k = 0; k < route->corners; k++) {
+            expect(&r, CORNER);
+            route->corner[k].x = take_signed(&r);
+            route->corner[k].y = take_signed(&r);
+        }
+    }
+    expect(&r, END);
+}
+
+static struct point first(const struct route *route)
+{
+    return route->corner[0];
+}
+
+static struct point last(const struct route *route)
+{
+    return route->corner[route->corners - 1];
+}
+
+static bool same(struct point p, struct point q)
+{
+    return p.x == q.x && p.y == q.y;
+}
+
+/* ---- survey lines, and the cables in each piece of them ---- */
+
+/* A bit a route: 32 routes at most. */
+typedef uint32_t cables;
+
+struct grid {
+    int columns, rows;
+    int32_t column[MOST_LINES], row[MOST_LINES];
+    cables along_row[MOST_LINES][MOST_LINES];    /* from column a to a + 1 on row b, at [b][a] */
+    cables along_column[MOST_LINES][MOST_LINES]; /* from row b to b + 1 on column a, at [a][b] */
+};
+
+static int add_line(int32_t *line, int count, int32_t value)
+{
+    int at = 0;
+    while (at < count && line[at] < value)
+        at++;
+    if (at < count && line[at] == value)
+        return count;
+    if (count == MOST_LINES)
+        fail("plan", "has more than 64 columns or rows");
+    memmove(line + at + 1, line + at, (size_t)(count - at) * sizeof *line);
+    line[at] = value;
+    return count + 1;
+}
+
+static int line_at(const int32_t *line, int count, int32_t value)
+{
+    for (int at = 0; at < count; at++)
+        if (line[at] == value)
+            return at;
+    fail("plan", "has a corner off the survey lines");
+    return 0;
+}
+
+static void mark(cables *edges, int from, int to, cables who)
+{
+    for (int at = from < to ? from : to; at < (from < to ? to : from); at++)
+        edges[at] |= who;
+}
+
+/* The survey lines run through the first and the last corner of every route, which are the runs' points. */
+static void lay_grid(const struct plan *plan, struct grid *grid)
+{
+    memset(grid, 0, sizeof *grid);
+    for (unsigned i = 0; i < plan->runs; i++) {
+        struct point ends[2] = { first(&plan->route[i]), last(&plan->route[i]) };
+        for (int k = 0; k < 2; k++) {
+            grid->columns = add_line(grid->column, grid->columns, ends[k].x);
+            grid->rows = add_line(grid->row, grid->rows, ends[k].y);
+        }
+    }
+    for (unsigned i = 0; i < plan->runs; i++) {
+        const struct route *route = &plan->route[i];
+        for (unsigned k = 1; k < route->corners; k++) {
+            struct point p = route->corner[k - 1], q = route->corner[k];
+            int a = line_at(grid->column, grid->columns, p.x), c = line_at(grid->column, grid->columns, q.x);
+            int b = line_at(grid->row, grid->rows, p.y), d = line_at(grid->row, grid->rows, q.y);
+            if (b == d)
+                mark(grid->along_row[b], a, c, (cables)1 << i);
+            else
+                mark(grid->along_column[a], b, d, (cables)1 << i);
+        }
+    }
+}
+
+/* ---- drawing ---- */
+
+/* Pixels. No decimetre is drawn wider than WIDEST. */
+enum { MARGIN = 70, MAP_WIDTH = 860, MAP_HEIGHT = 560, LEAST_WIDTH = 400, WIDEST = 100, FOOT = 112, REACH = 22 };
+
+/* Where the map stands on the sheet: decimetres to pixels, north up. */
+struct view {
+    double scale, left, top, width, height;
+    int32_t west, north;
+};
+
+static double across(const struct view *v, int32_t x)
+{
+    return v->left + ((double)x - v->west) * v->scale;
+}
+
+static double down(const struct view *v, int32_t y)
+{
+    return v->top + ((double)v->north - y) * v->scale;
+}
+
+static struct view fit(const struct grid *grid)
+{
+    double wide = (double)grid->column[grid->columns - 1] - grid->column[0];
+    double high = (double)grid->row[grid->rows - 1] - grid->row[0];
+    struct view v = { .scale = WIDEST };
+    if (wide * v.scale > MAP_WIDTH)
+        v.scale = MAP_WIDTH / wide;
+    if (high * v.scale > MAP_HEIGHT)
+        v.scale = MAP_HEIGHT / high;
+    double drawn = wide * v.scale;
+    v.width = (drawn < LEAST_WIDTH ? LEAST_WIDTH : drawn) + 2 * MARGIN;
+    v.height = high * v.scale + 2 * MARGIN + FOOT;
+    v.left = (v.width - drawn) / 2;
+    v.top = MARGIN;
+    v.west = grid->column[0];
+    v.north = grid->row[grid->rows - 1];
+    return v;
+}
+
+static void draw_style(void)
+{
+    puts("<style>\n"
+         "text { font: 14px sans-serif; fill: #222 }\n"
+         ".survey { stroke: #d9dde2; stroke-width: 1 }\n"
+         ".trench, .key { stroke-linecap: round }\n"
+         ".one { stroke: #e6c79c; stroke-width: 6 }\n"
+         ".two { stroke: #d07f35; stroke-width: 10 }\n"
+         ".more { stroke: #8c4a12; stroke-width: 14 }\n"
+         ".centre { fill: none; stroke: #0b3f91; stroke-width: 2; stroke-linejoin: round }\n"
+         ".pit { fill: #fff; stroke: #222; stroke-width: 1.5 }\n"
+         ".end { fill: #222 }\n"
+         ".end.of-centre { fill: #0b3f91 }\n"
+         ".label { font-weight: bold }\n"
+         ".label.of-centre { fill: #0b3f91 }\n"
+         ".scale { fill: none; stroke: #222; stroke-width: 1.5 }\n"
+         "</style>");
+}
+
+static void draw_survey_lines(const struct grid *grid, const struct view *v)
+{
+    double west = across(v, grid->column[0]) - REACH, east = across(v, grid->column[grid->columns - 1]) + REACH;
+    double north = down(v, grid->row[grid->rows - 1]) - REACH, south = down(v, grid->row[0]) + REACH;
+    for (int a = 0; a < grid->columns; a++) {
+        double x = across(v, grid->column[a]);
+        printf("<line class=\"survey\" x1=\"%.3f\" y1=\"%.3f\" x2=\"%.3f\" y2=\"%.3f\"/>\n", x, north, x, south);
+    }
+    for (int b = 0; b < grid->rows; b++) {
+        double y = down(v, grid->row[b]);
+        printf("<line class=\"survey\" x1=\"%.3f\" y1=\"%.3f\" x2=\"%.3f\" y2=\"%.3f\"/>\n", west, y, east, y);
+    }
+}
+
+static int count(cables who)
+{
+    int ones = 0;
+    for (; who; who &= who - 1)
+        ones++;
+    return ones;
+}
+
+/* One trench from p to q, with the runs whose cables lie in it. */
+static void draw_trench(const struct plan *plan, const struct view *v, struct point p, struct point q, cables who)
+{
+    int carried = count(who);
+    printf("<line class=\"trench %s\" x1=\"%.3f\" y1=\"%.3f\" x2=\"%.3f\" y2=\"%.3f\"><title>%" PRId32 ",%" PRId32 " to %" PRId32
+           ",%" PRId32 ": run",
+           carried == 1 ? "one" : carried == 2 ? "two" : "more", across(v, p.x), down(v, p.y), across(v, q.x), down(v, q.y), p.x,
+           p.y, q.x, q.y);
+    for (unsigned i = 0; i < plan->runs; i++)
+        if (who >> i & 1)
+            printf(" %u", plan->route[i].run);
+    puts("</title></line>");
+}
+
+/* The trenches along one line: a piece for each stretch in which the same cables lie. */
+static void draw_line_of_trenches(const struct plan *plan, const struct grid *grid, const struct view *v, bool row, int line)
+{
+    const cables *edges = row ? grid->along_row[line] : grid->along_column[line];
+    int edge_count = (row ? grid->columns : grid->rows) - 1;
+    for (int from = 0, to; from < edge_count; from = to) {
+        for (to = from + 1; to < edge_count && edges[to] == edges[from]; to++)
+            ;
+        struct point p = { grid->column[row ? from : line], grid->row[row ? line : from] };
+        struct point q = { grid->column[row ? to : line], grid->row[row ? line : to] };
+        if (edges[from])
+            draw_trench(plan, v, p, q, edges[from]);
+    }
+}
+
+static void draw_trenches(const struct plan *plan, const struct grid *grid, const struct view *v)
+{
+    for (int b = 0; b < grid->rows; b++)
+        draw_line_of_trenches(plan, grid, v, true, b);
+    for (int a = 0; a < grid->columns; a++)
+        draw_line_of_trenches(plan, grid, v, false, a);
+}
+
+static void draw_centre(const struct plan *plan, const struct view *v)
+{
+    for (unsigned i = 0; i < plan->runs; i++) {
+        const struct route *route = &plan->route[i];
+        if (route->run != plan->centre)
+            continue;
+        printf("<polyline class=\"centre\" points=\"");
+        for (unsigned k = 0; k < route->corners; k++)
+            printf("%s%.3f,%.3f", k ? " " : "", across(v, route->corner[k].x), down(v, route->corner[k].y));
+        puts("\"/>");
+    }
+}
+
+/* Whether this corner stands in no route before it. */
+static bool is_new(const struct plan *plan, unsigned i, unsigned k)
+{
+    for (unsigned j = 0; j <= i; j++)
+        for (unsigned m = 0; m < (j < i ? plan->route[j].corners : k); m++)
+            if (same(plan->route[j].corner[m], plan->route[i].corner[k]))
+                return false;
+    return true;
+}
+
+static void draw_pits(const struct plan *plan, const struct view *v)
+{
+    for (unsigned i = 0; i < plan->runs; i++)
+        for (unsigned k = 0; k < plan->route[i].corners; k++) {
+            struct point p = plan->route[i].corner[k];
+            if (is_new(plan, i, k))
+                printf("<circle class=\"pit\" cx=\"%.3f\" cy=\"%.3f\" r=\"5\"><title>%" PRId32 ",%" PRId32 "</title></circle>\n",
+                       across(v, p.x), down(v, p.y), p.x, p.y);
+        }
+}
+
+/* ---- the runs' points and their numbers ---- */
+
+struct area {
+    double left, top, right, bottom;
+};
+
+static bool apart(struct area a, struct area b)
+{
+    return a.right < b.left || b.right < a.left || a.bottom < b.top || b.bottom < a.top;
+}
+
+/* The part of the sheet that a straight piece of a route covers, with its pits. */
+static struct area piece(const struct view *v, struct point p, struct point q)
+{
+    double x = across(v, p.x), y = down(v, p.y), w = across(v, q.x), z = down(v, q.y);
+    struct area a = { (x < w ? x : w) - 6, (y < z ? y : z) - 6, (x < w ? w : x) + 6, (y < z ? z : y) + 6 };
+    return a;
+}
+
+struct labels {
+    int count;
+    struct area taken[2 * TRENCH_MOST_RUNS];
+};
+
+static bool is_free(const struct plan *plan, const struct view *v, const struct labels *labels, struct area a)
+{
+    for (int n = 0; n < labels->count; n++)
+        if (!apart(a, labels->taken[n]))
+            return false;
+    for (unsigned i = 0; i < plan->runs; i++)
+        for (unsigned k = 0; k < plan->route[i].corners; k++)
+            if (!apart(a, piece(v, plan->route[i].corner[k ? k - 1 : 0], plan->route[i].corner[k])))
+                return false;
+    return true;
+}
+
+/* Where a label of this many characters stands near p: the first free of the four corners around it, or the upper right. */
+static struct area label_at(const struct plan *plan, const struct view *v, struct labels *labels, struct point p, int characters)
+{
+    double width = 9.0 * characters, height = 11, x = across(v, p.x), y = down(v, p.y);
+    struct area around[4] = {
+        { x + 8, y - 8 - height, x + 8 + width, y - 8 },
+        { x - 8 - width, y - 8 - height, x - 8, y - 8 },
+        { x + 8, y + 8, x + 8 + width, y + 8 + height },
+        { x - 8 - width, y + 8, x - 8, y + 8 + height },
+    };
+    int chosen = 0;
+    for (int i = 3; i >= 0; i--)
+        if (is_free(plan, v, labels, around[i]))
+            chosen = i;
+    labels->taken[labels->count++] = around[chosen];
+    return around[chosen];
+}
+
+static struct point end_of(const struct plan *plan, unsigned n)
+{
+    return n % 2 ? last(&plan->route[n / 2]) : first(&plan->route[n / 2]);
+}
+
+/* The numbers of all runs that start or end at p, as text; whether the centre is one of them. */
+static bool name_end(const struct plan *plan, struct point p, char *text, size_t room)
+{
+    bool centre = false;
+    size_t length = 0;
+    for (unsigned i = 0; i < plan->runs; i++)
+        if (same(p, first(&plan->route[i])) || same(p, last(&plan->route[i]))) {
+            length += (size_t)snprintf(text + length, room - length, "%s%u", length ? "," : "", plan->route[i].run);
+            centre = centre || plan->route[i].run == plan->centre;
+        }
+    return centre;
+}
+
+/* The runs' points, each with the numbers of all runs that start or end there. */
+static void draw_ends(const struct plan *plan, const struct view *v)
+{
+    struct labels labels = { .count = 0 };
+    for (unsigned n = 0; n < 2 * plan->runs; n++) {
+        struct point p = end_of(plan, n);
+        bool seen = false;
+        for (unsigned m = 0; m < n; m++)
+            seen = seen || same(p, end_of(plan, m));
+        if (seen)
+            continue;
+        char text[6 * TRENCH_MOST_RUNS + 1];
+        const char *who = name_end(plan, p, text, sizeof text) ? " of-centre" : "";
+        struct area at = label_at(plan, v, &labels, p, (int)strlen(text));
+        printf("<circle class=\"end%s\" cx=\"%.3f\" cy=\"%.3f\" r=\"3\"><title>%" PRId32 ",%" PRId32 "</title></circle>\n", who,
+               across(v, p.x), down(v, p.y), p.x, p.y);
+        printf("<text class=\"label%s\" x=\"%.3f\" y=\"%.3f\">%s</text>\n", who, at.left, at.bottom, text);
+    }
+}
+
+/* ---- the foot of the sheet ---- */
+
+/* A round length that is drawn 60 to 150 pixels wide, in decimetres. */
+static double round_length(const struct view *v)
+{
+    double length = 1;
+    for (int i = 0; length * v->scale < 60; i++)
+        length *= i % 3 == 1 ? 2.5 : 2;
+    return length;
+}
+
+static void draw_text(double x, double y, const char *text)
+{
+    printf("<text x=\"%.1f\" y=\"%.1f\">%s</text>\n", x, y + 5, text);
+}
+
+static void draw_scale(const struct view *v, double y)
+{
+    char text[40];
+    double length = round_length(v), pixels = length * v->scale;
+    printf("<path class=\"scale\" d=\"M%d %.1f v8 h%.3f v-8\"/>\n", MARGIN, y - 4, pixels);
+    if (length < 10)
+        snprintf(text, sizeof text, "%.0f dm", length);
+    else
+        snprintf(text, sizeof text, "%.0f m", length / 10);
+    draw_text(MARGIN + pixels + 8, y, text);
+}
+
+static void draw_sample(const char *class, double x, double y)
+{
+    printf("<line class=\"%s\" x1=\"%.1f\" y1=\"%.1f\" x2=\"%.1f\" y2=\"%.1f\"/>\n", class, x, y, x + 24, y);
+}
+
+static void draw_key(double x, double y)
+{
+    draw_sample("key one", x, y);
+    draw_text(x + 34, y, "one cable");
+    draw_sample("key two", x + 120, y);
+    draw_text(x + 154, y, "two cables");
+    draw_sample("centre", x + 248, y);
+    draw_text(x + 280, y, "centre");
+    printf("<circle class=\"key pit\" cx=\"%.1f\" cy=\"%.1f\" r=\"5\"/>\n", x + 350, y);
+    draw_text(x + 362, y, "pit");
+}
+
+static void draw_foot(const struct plan *plan, const struct view *v)
+{
+    double y = v->height - FOOT;
+    printf("<text x=\"%d\" y=\"%.1f\">job %" PRIu32 ": %u run%s, centre %u</text>\n", MARGIN, y, plan->job, plan->runs,
+           plan->runs == 1 ? "" : "s", plan->centre);
+    printf("<text x=\"%d\" y=\"%.1f\">trench %" PRIu32 " dm, saved %" PRIu32 " dm, pits %u</text>\n", MARGIN, y + 22, plan->trench,
+           plan->saved, plan->pits);
+    draw_key(MARGIN, y + 46);
+    draw_scale(v, y + 76);
+}
+
+static void draw(const struct plan *plan)
+{
+    static struct grid grid;
+    lay_grid(plan, &grid);
+    struct view v = fit(&grid);
+    printf("<svg xmlns=\"http://www.w3.org/2000/svg\" viewBox=\"0 0 %.0f %.0f\" width=\"%.0f\" height=\"%.0f\">\n", v.width, v.height,
+           v.width, v.height);
+    printf("<title>Trenches of job %" PRIu32 "</title>\n", plan->job);
+    draw_style();
+    puts("<rect width=\"100%\" height=\"100%\" fill=\"#fff\"/>");
+    draw_survey_lines(&grid, &v);
+    draw_trenches(plan, &grid, &v);
+    draw_centre(plan, &v);
+    draw_pits(plan, &v);
+    draw_ends(plan, &v);
+    draw_foot(plan, &v);
+    puts("</svg>");
+}
+
+int main(int argc, char **argv)
+{
+    static uint8_t job[JOB_ROOM], out[TRENCH_PLAN_ROOM];
+    static struct plan plan;
+    if (argc != 2) {
+        fprintf(stderr, "usage: map JOB > plan.svg     a job book, or - for standard input\n");
+        return FAILED;
+    }
+    size_t length = read_job(argv[1], job);
+    int32_t planned = trench_plan(job, length, out, sizeof out);
+    if (planned <= 0) {
+        int32_t number = -planned;
+        fprintf(stderr, "map: %s: refused %" PRId32 " at %zu: %s\n", argv[1], number, place_of(number, job, length), words(number));
+        return REFUSED;
+    }
+    read_plan(out, (size_t)planned, &plan);
+    draw(&plan);
+    if (fflush(stdout) != 0 || ferror(stdout))
+        fail("standard output", "cannot be written");
+    return 0;
+}
