@@ -13,10 +13,12 @@ use lib.ListN.{length, getD, set, length-set}
 use lib.Seq.{getD-set-same, getD-set-other}
 use Rattle.network.specs.Steps.{Dir, hor, ver, other}
 use Rattle.sharing.specs.Table.{best, run}
+use Rattle.table.specs.declared.frame.Line.{Line}
 use Rattle.table.specs.declared.frame.Group.{Group}
 use Rattle.table.specs.declared.fill.Pair.{Pair}
-use Rattle.table.specs.Rule.{many, lineAt, position, spot, dirNo, tableOf, ownSet, edgeOf, edgeAt, pair, ruleOf, startOf, entered, cellOf, pairAt, Ruled, figureOf, Fit, Low, Done, Beyond, four, intoOf, Near}
-use Rattle.table.proofs.Rule.{into-none, into-some, low-edge, rule-le}
+use Rattle.table.specs.declared.fill.Cell.{Cell}
+use Rattle.table.specs.Rule.{many, lineAt, position, spot, dirNo, tableOf, ownSet, edgeAt, pair, pairOf, edgeBy, ruleOf, startOf, entered, cellOf, pairAt, Ruled, figureOf, Fit, Low, Done, Beyond, four, enterOf, intoOf, Light, Near, cellIn}
+use Rattle.table.proofs.Rule.{enter-none, enter-some, low-edge, rule-le}
 
 -- ---- positions
 
@@ -80,6 +82,13 @@ stride-pos : (w : ℕ) (d : Dir) → 1 ≤ w → 1 ≤ strideOf w d
 stride-pos w hor h = omega arith
 stride-pos w ver h = h
 
+start-le : (u : ℕ) → startOf u ≤ 1
+start-le u = go (eqb u 0)
+  where
+    go : (b : Bool) → cond b 1 0 ≤ 1
+    go true = omega arith
+    go false = omega arith
+
 dir-lt : (d : Dir) → dirNo d < 2
 dir-lt hor = omega arith
 dir-lt ver = omega arith
@@ -89,14 +98,14 @@ dir-lt ver = omega arith
 pub into-cell : (g : Group) (words : List ℕ) (d : Dir) (s t p : ℕ) → p ≡ spot (g .w) d s t
     → intoOf words s (strideOf (g .w) d) p (dirNo d) (lineAt g d s) (lineAt g d (pred s)) (lineAt g (other d) t) (g .cross) ≡ cellOf g words d s t
 unfolding entered
-into-cell g words d zero t p e = into-none words 0 (strideOf (g .w) d) p (dirNo d) _ _ _ (g .cross) refl
+into-cell g words d zero t p e = enter-none 0 _ _ _ _ _ _ (g .cross) refl
 into-cell g words d (suc s) t p e =
     let f : p - strideOf (g .w) d ≡ spot (g .w) d s t = omega (arith, spot-before (g .w) d s t) in
-    into-some words (suc s) (strideOf (g .w) d) p (dirNo d) _ _ _ (g .cross) (λ z. omega arith) ∙ rw f (same d)
+    enter-some (suc s) _ _ _ _ _ _ (g .cross) (λ z. omega arith) ∙ rw f (same d)
   where
     same : (d : Dir)
-        → ruleOf (edgeOf words (spot (g .w) d s t) (dirNo d) (lineAt g d s) (lineAt g (other d) t))
-        (edgeOf words (spot (g .w) d s t) (1 - dirNo d) (lineAt g (other d) t) (lineAt g d s)) (startOf (spot (g .w) d s t))
+        → ruleOf (edgeBy (pairOf words (spot (g .w) d s t) (dirNo d)) (lineAt g d s) (lineAt g (other d) t))
+        (edgeBy (pairOf words (spot (g .w) d s t) (1 - dirNo d)) (lineAt g (other d) t) (lineAt g d s)) (startOf (spot (g .w) d s t))
         (ownSet g d (suc s) t) (lineAt g d (suc s) .len) (g .cross)
         ≡ entered g words d s t
     same hor = refl
@@ -201,20 +210,13 @@ module _ (g : Group) (words : List ℕ) (a b : ℕ) (ha : a < g .w) (fits : posi
       let x = low-edge words (spot (g .w) d s t) (dirNo d) (s + t) (dir-lt d) l in
       let y = low-edge words (spot (g .w) (other d) t s) (dirNo (other d)) (s + t) (dir-lt (other d)) (rw (spot-turn (g .w) d s t) l) in
       let r = rule-le (edgeAt g words d s t) (edgeAt g words (other d) t s) (startOf (spot (g .w) d s t)) (ownSet g d (suc s) t) (lineAt g d (suc s) .len) (g .cross)
-      (1 + (s + t) * 2000000) (x .0) (x .1) (y .0) (start-le (spot (g .w) d s t)) in
+      (1 + (s + t) * 2000000) (x .0) (x .1) (y .0) (omega (arith, start-le (spot (g .w) d s t))) in
       let z = fit .short d (suc s) hs in
       (omega (arith, r .0), omega (arith, r .1))
     where
       tail : (d : Dir) → suc s < many g d → t < many g (other d) → spot (g .w) d s t < position (g .w) a b → Low words (spot (g .w) d s t) (s + t)
       tail hor hs ht h = old .low s t (omega arith) h
       tail ver hs ht h = let e : t + s ≡ s + t = omega arith in rw e at (old .low t s ht h)
-
-      start-le : (u : ℕ) → startOf u ≤ 1 + (s + t) * 2000000
-      start-le u = go (eqb u 0)
-        where
-          go : (b : Bool) → cond b 1 0 ≤ 1 + (s + t) * 2000000
-          go true = omega arith
-          go false = omega arith
 
   cell-low : Fit g words → Done g words (position (g .w) a b) → (d : Dir) (s t : ℕ) → s < many g d → t < many g (other d)
       → spot (g .w) d s t ≡ position (g .w) a b
@@ -276,12 +278,17 @@ module _ (g : Group) (words : List ℕ) (n : ℕ) (fit : Fit g words) (old : Don
       record {
         room = omega (arith, fit .room);
         small = omega arith;
-        either = dir-lt d;
-        short = fit .short d s hs;
         back = back s hs e;
-        low = low s hs e;
+        light = λ z. light (low s hs e z);
       }
     where
+      light : Low words (n - strideOf (g .w) d) 126
+          → Light (pairOf words (n - strideOf (g .w) d) (dirNo d)) (pairOf words (n - strideOf (g .w) d) (1 - dirNo d)) (startOf (n - strideOf (g .w) d)) (lineAt g d s .len)
+      light l =
+          let x = low-edge words (n - strideOf (g .w) d) (dirNo d) 126 (dir-lt d) l in
+          let y = low-edge words (n - strideOf (g .w) d) (1 - dirNo d) 126 (omega arith) l in
+          record { along-best = x .0; along-run = x .1; across-best = y .0; begins = start-le (n - strideOf (g .w) d); short = fit .short d s hs }
+
       back : (s : ℕ) → s < many g d → n ≡ spot (g .w) d s t → (s ≡ 0 → ⊥) → strideOf (g .w) d ≤ n
       back zero hs e z = absurd (z refl)
       back (suc s) hs e z = omega (arith, spot-before (g .w) d s t)
@@ -358,3 +365,18 @@ pub figure-is : (g : Group) (words : List ℕ) (n : ℕ) → Fit g words
     → n ≡ max (max (getD words ((g .h * g .w - 1) * 4) 0) (getD words ((g .h * g .w - 1) * 4 + 2) 0)) (startOf (g .h * g .w - 1)) → pred n ≡ figureOf g words
 unfolding figureOf
 figure-is g words n f e = rw (← position-last (g .w) (g .h) (f .some-columns) (f .some-rows), add-zero ((g .h * g .w - 1) * 4), e)
+
+-- ---- the cell that is handed on
+
+-- it stands for the words at the position before, but on the first column, where it does not count
+pub enter-left : (words : List ℕ) (a p : ℕ) (c : Cell) (col left row : Line) (cross : ℕ) → ((a ≡ 0 → ⊥) → c ≡ cellIn words (p - 1))
+    → enterOf a (c .hor) (c .ver) (startOf (p - 1)) col left row cross ≡ intoOf words a 1 p 0 col left row cross
+enter-left words zero p c col left row cross h = enter-none 0 _ _ _ col left row cross refl ∙ sym (enter-none 0 _ _ _ col left row cross refl)
+enter-left words (suc a) p c col left row cross h = ap (λ c. enterOf (suc a) (c .hor) (c .ver) (startOf (p - 1)) col left row cross) (h (λ z. omega arith))
+
+-- the cell of the vertex that was put in last
+pub cell-next : (words : List ℕ) (p : ℕ) (c : Cell) → p * 4 + 3 < length words → c ≡ cellIn (four words (p * 4) (c .hor) (c .ver)) p
+cell-next words p c h =
+    let f = four-at words (p * 4) (c .hor) (c .ver) h in
+    let n : p * 4 + 2 + 1 ≡ p * 4 + 3 = omega arith in
+    ap₂ (λ x y. record { hor = x; ver = y }) (ap₂ pair (sym (simp add-zero (f .0))) (sym (simp add-zero (f .1)))) (ap₂ pair (sym (f .2)) (sym (rw n (f .3))))

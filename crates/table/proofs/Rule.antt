@@ -12,13 +12,24 @@ use Rattle.sharing.specs.Table.{plus}
 use Rattle.table.specs.declared.frame.Line.{Line}
 use Rattle.table.specs.declared.fill.Edge.{Edge}
 use Rattle.table.specs.declared.fill.Pair.{Pair}
-use Rattle.table.specs.Rule.{edgeOf, pair, unlessOwn, ifOwn, allOf, newOf, stretchOf, ruleOf, startOf, Low, intoOf}
+use Rattle.table.specs.Rule.{pair, pairOf, edgeBy, unlessOwn, ifOwn, allOf, newOf, stretchOf, ruleOf, Low, enterOf}
 
 -- ---- cases
 
 pub plus-some : (x l : ℕ) → (x ≡ 0 → ⊥) → plus x l ≡ x + l
 plus-some zero l h = absurd (h refl)
 plus-some (suc x) l h = refl
+
+-- a length is added to the larger of two words
+pub plus-max : (a b l : ℕ) → plus (max a b) l ≡ max (plus a l) (plus b l)
+plus-max zero zero l = refl
+plus-max zero (suc b) l = let e : max 0 (suc b) ≡ suc b = omega arith in rw e (omega arith)
+plus-max (suc a) zero l = let e : max (suc a) 0 ≡ suc a = omega arith in rw e (omega arith)
+plus-max (suc a) (suc b) l = rw (plus-some (max (suc a) (suc b)) l (λ e. omega arith)) (omega arith)
+
+-- the largest of three, in another order
+pub max-three : (a b c : ℕ) → max a (max b c) ≡ max (max a b) c
+max-three a b c = omega arith
 
 pub unless-yes : (e : Edge) (o : ℕ) → e .own ≡ o → unlessOwn e o ≡ 0
 unfolding unlessOwn
@@ -54,21 +65,19 @@ module _ (along across : Edge) (start o len cross : ℕ) where
   unfolding ruleOf
   rule-cross h k = rw (ne-eqb o 0 h, ne-eqb (bitAnd o cross) 0 k)
 
--- the edge into a vertex on the first line, and on another one
-module _ (words : List ℕ) (s stride p d : ℕ) (along before across : Line) (cross : ℕ) where
-  pub into-none : s ≡ 0 → intoOf words s stride p d along before across cross ≡ pair 0 0
-  unfolding intoOf
-  into-none h = rw (eq-eqb s 0 h)
+-- an edge that ends on the first line, and on another one
+module _ (s : ℕ) (x y : Pair) (start : ℕ) (along before across : Line) (cross : ℕ) where
+  pub enter-none : s ≡ 0 → enterOf s x y start along before across cross ≡ pair 0 0
+  unfolding enterOf
+  enter-none h = rw (eq-eqb s 0 h)
 
-  pub into-some : (s ≡ 0 → ⊥) → intoOf words s stride p d along before across cross
-      ≡ ruleOf (edgeOf words (p - stride) d before across) (edgeOf words (p - stride) (1 - d) across before) (startOf (p - stride))
-      (bitAnd (across .on) (along .into)) (along .len) cross
-  unfolding intoOf
-  into-some h = rw (ne-eqb s 0 h)
+  pub enter-some : (s ≡ 0 → ⊥) → enterOf s x y start along before across cross
+      ≡ ruleOf (edgeBy x before across) (edgeBy y across before) start (bitAnd (across .on) (along .into)) (along .len) cross
+  unfolding enterOf
+  enter-some h = rw (ne-eqb s 0 h)
 
 -- the words that an edge is read from are low
-pub low-edge : (words : List ℕ) (u d n : ℕ) → d < 2 → Low words u n
-    → (getD words (u * 4 + d * 2) 0 ≤ 1 + n * 2000000) × (getD words (u * 4 + d * 2 + 1) 0 ≤ 1 + n * 2000000)
+pub low-edge : (words : List ℕ) (u d n : ℕ) → d < 2 → Low words u n → (pairOf words u d .best ≤ 1 + n * 2000000) × (pairOf words u d .run ≤ 1 + n * 2000000)
 low-edge words u zero n h l =
     let e : u * 4 + 0 + 1 ≡ u * 4 + 1 = omega arith in
     (l 0 (omega arith), rw e (l 1 (omega arith)))

@@ -19,7 +19,7 @@ use Rattle.intersection.proofs.Members.{lowest-is}
 use Rattle.table.specs.declared.frame.Line.{Line}
 use Rattle.table.specs.declared.frame.Group.{Group}
 use Rattle.table.specs.declared.trace.Taken.{Taken}
-use Rattle.table.specs.Rule.{position, edgeOf, Fit}
+use Rattle.table.specs.Rule.{position, pairOf, edgeBy, Fit}
 use Rattle.table.specs.Walk.{beforeOf, arriveOf, arriveAt, upNo, shareNo, moveBy, walk, begin, moveAt}
 use Rattle.table.proofs.Filling.{position-lt, area}
 
@@ -52,15 +52,15 @@ lowest-byte s n h e = let l = lowest-le s h in mod-eq-of-lt (omega arith) ∙ e
 -- ---- the edges along and across, by the direction
 
 module _ (words : List ℕ) (p : ℕ) (col row : Line) (t : Taken) (cross : ℕ) where
-  pub arrive-up : t .ver ≡ true → arriveOf words p col row t cross ≡ beforeOf t (edgeOf words p 1 row col) (edgeOf words p 0 col row) cross
+  pub arrive-up : t .ver ≡ true → arriveOf words p col row t cross ≡ beforeOf t (edgeBy (pairOf words p 1) row col) (edgeBy (pairOf words p 0) col row) cross
   unfolding arriveOf
   arrive-up h =
-      ap (λ v. cond v (beforeOf t (edgeOf words p 1 row col) (edgeOf words p 0 col row) cross) (beforeOf t (edgeOf words p 0 col row) (edgeOf words p 1 row col) cross)) h
+      ap (λ v. cond v (beforeOf t (edgeBy (pairOf words p 1) row col) (edgeBy (pairOf words p 0) col row) cross) (beforeOf t (edgeBy (pairOf words p 0) col row) (edgeBy (pairOf words p 1) row col) cross)) h
 
-  pub arrive-right : t .ver ≡ false → arriveOf words p col row t cross ≡ beforeOf t (edgeOf words p 0 col row) (edgeOf words p 1 row col) cross
+  pub arrive-right : t .ver ≡ false → arriveOf words p col row t cross ≡ beforeOf t (edgeBy (pairOf words p 0) col row) (edgeBy (pairOf words p 1) row col) cross
   unfolding arriveOf
   arrive-right h =
-      ap (λ v. cond v (beforeOf t (edgeOf words p 1 row col) (edgeOf words p 0 col row) cross) (beforeOf t (edgeOf words p 0 col row) (edgeOf words p 1 row col) cross)) h
+      ap (λ v. cond v (beforeOf t (edgeBy (pairOf words p 1) row col) (edgeBy (pairOf words p 0) col row) cross) (beforeOf t (edgeBy (pairOf words p 0) col row) (edgeBy (pairOf words p 1) row col) cross)) h
 
 -- ---- the arrays that hold the moves
 

@@ -13,6 +13,7 @@ use Rattle.table.specs.declared.frame.Line.{Line}
 use Rattle.table.specs.declared.frame.Group.{Group}
 use Rattle.table.specs.declared.fill.Edge.{Edge}
 use Rattle.table.specs.declared.fill.Pair.{Pair}
+use Rattle.table.specs.declared.fill.Cell.{Cell}
 use Rattle.table.specs.Frame.{blank}
 
 -- ---- the words
@@ -50,19 +51,22 @@ tableOf w words d run s t = getD words (spot w d s t * 4 + dirNo d * 2 + 1) 0
 abbrev pub ownSet : Group → Dir → ℕ → ℕ → ℕ
 ownSet g d s t = bitAnd (lineAt g (other d) t .on) (lineAt g d s .into)
 
--- the edge along the direction of number d that ends at position p, by its line along and its line across
-abbrev pub edgeOf : List ℕ → ℕ → ℕ → Line → Line → Edge
-edgeOf words p d along across =
-    record { best = getD words (p * 4 + d * 2) 0; run = getD words (p * 4 + d * 2 + 1) 0; own = bitAnd (across .on) (along .into); len = along .len }
+abbrev pub pair : ℕ → ℕ → Pair
+pair x y = record { best = x; run = y }
+
+-- the words of the edge along the direction of number d that ends at position p
+abbrev pub pairOf : List ℕ → ℕ → ℕ → Pair
+pairOf words p d = pair (getD words (p * 4 + d * 2) 0) (getD words (p * 4 + d * 2 + 1) 0)
+
+-- an edge with these words, by its line along and its line across
+abbrev pub edgeBy : Pair → Line → Line → Edge
+edgeBy x along across = record { best = x .best; run = x .run; own = bitAnd (across .on) (along .into); len = along .len }
 
 -- the edge along d that ends at (s, t)
 abbrev pub edgeAt : Group → List ℕ → Dir → ℕ → ℕ → Edge
-edgeAt g words d s t = edgeOf words (spot (g .w) d s t) (dirNo d) (lineAt g d s) (lineAt g (other d) t)
+edgeAt g words d s t = edgeBy (pairOf words (spot (g .w) d s t) (dirNo d)) (lineAt g d s) (lineAt g (other d) t)
 
 -- ---- the rule of one edge, from the edges along and across that end where it begins
-
-abbrev pub pair : ℕ → ℕ → Pair
-pair x y = record { best = x; run = y }
 
 -- the best word, or 0 if the edge has the owner o
 unfoldable pub unlessOwn : Edge → ℕ → ℕ
@@ -146,18 +150,32 @@ pub record Beyond (old new : List ℕ) (n : ℕ) : Type 0 where
 unfoldable pub four : List ℕ → ℕ → Pair → Pair → List ℕ
 four words k x y = set (set (set (set words k (x .best)) (k + 1) (x .run)) (k + 2) (y .best)) (k + 3) (y .run)
 
--- the edge into a vertex at position p from the one stride before it, on line s along the direction of number d
-unfoldable pub intoOf : List ℕ → ℕ → ℕ → ℕ → ℕ → Line → Line → Line → ℕ → Pair
-intoOf words s stride p d along before across cross =
+-- the words of an edge that ends on line s along its direction: none where s is 0. It begins where edges along and across with the words x and y end.
+unfoldable pub enterOf : ℕ → Pair → Pair → ℕ → Line → Line → Line → ℕ → Pair
+enterOf s x y start along before across cross =
     cond (eqb s 0) (pair 0 0)
-    (ruleOf (edgeOf words (p - stride) d before across) (edgeOf words (p - stride) (1 - d) across before) (startOf (p - stride))
-    (bitAnd (across .on) (along .into)) (along .len) cross)
+    (ruleOf (edgeBy x before across) (edgeBy y across before) start (bitAnd (across .on) (along .into)) (along .len) cross)
+
+-- the same for the edge into position p, along the direction of number d, from the position that is stride before it
+abbrev pub intoOf : List ℕ → ℕ → ℕ → ℕ → ℕ → Line → Line → Line → ℕ → Pair
+intoOf words s stride p d along before across cross =
+    enterOf s (pairOf words (p - stride) d) (pairOf words (p - stride) (1 - d)) (startOf (p - stride)) along before across cross
+
+-- the words are small enough for one edge more
+pub record Light (x y : Pair) (start len : ℕ) : Type 0 where
+  pub along-best : x .best ≤ 1 + 126 * 2000000
+  pub along-run : x .run ≤ 1 + 126 * 2000000
+  pub across-best : y .best ≤ 1 + 126 * 2000000
+  pub begins : start ≤ 1
+  pub short : len ≤ 2000000
 
 -- such an edge can be entered
 pub record Near (words : List ℕ) (s stride p d len : ℕ) : Type 0 where
   pub room : p * 4 + 3 < length words
   pub small : p < 4096
-  pub either : d < 2
-  pub short : len ≤ 2000000
   pub back : (s ≡ 0 → ⊥) → stride ≤ p
-  pub low : (s ≡ 0 → ⊥) → Low words (p - stride) 126
+  pub light : (s ≡ 0 → ⊥) → Light (pairOf words (p - stride) d) (pairOf words (p - stride) (1 - d)) (startOf (p - stride)) len
+
+-- the cell of a vertex
+abbrev pub cellIn : List ℕ → ℕ → Cell
+cellIn words p = record { hor = pairOf words p 0; ver = pairOf words p 1 }

@@ -15,7 +15,7 @@ use Rattle.table.specs.declared.frame.Group.{Group}
 use Rattle.table.specs.declared.fill.Edge.{Edge}
 use Rattle.table.specs.declared.trace.Taken.{Taken}
 use Rattle.table.specs.declared.trace.Trace.{Trace}
-use Rattle.table.specs.Rule.{lineAt, position, edgeOf, unlessOwn}
+use Rattle.table.specs.Rule.{lineAt, position, pairOf, edgeBy, unlessOwn}
 
 -- ---- one edge back
 
@@ -52,8 +52,8 @@ beforeOf t along across cross =
 -- the same at a position, by its column and its row
 unfoldable pub arriveOf : List ℕ → ℕ → Line → Line → Taken → ℕ → Taken
 arriveOf words p col row t cross =
-    cond (t .ver) (beforeOf t (edgeOf words p 1 row col) (edgeOf words p 0 col row) cross)
-    (beforeOf t (edgeOf words p 0 col row) (edgeOf words p 1 row col) cross)
+    cond (t .ver) (beforeOf t (edgeBy (pairOf words p 1) row col) (edgeBy (pairOf words p 0) col row) cross)
+    (beforeOf t (edgeBy (pairOf words p 0) col row) (edgeBy (pairOf words p 1) row col) cross)
 
 abbrev pub arriveAt : Group → List ℕ → Taken → ℕ → ℕ → Taken
 arriveAt g words t a b = arriveOf words (position (g .w) a b) (lineAt g hor a) (lineAt g ver b) t (g .cross)

@@ -2,10 +2,10 @@
 use crate::frame::Group;
 use crate::frame::Line;
 ghost use mathlib.Core.Path.{_≡_};
-ghost use Prim.Native.Nat.{ℕ, pred, _+_, _*_, _^_, _≤_, _<_, max};
+ghost use Prim.Native.Nat.{ℕ, pred, _+_, _-_, _*_, _^_, _≤_, _<_, max};
 ghost use lib.ListN.{length, getD};
 ghost use Rattle.sharing.specs.Table.{plus};
-ghost use Rattle.table.specs.Rule.{edgeOf, unlessOwn, ifOwn, ruleOf, startOf, Ruled, figureOf, Fit, Beyond, four, intoOf, Near};
+ghost use Rattle.table.specs.Rule.{pairOf, edgeBy, unlessOwn, ifOwn, ruleOf, startOf, Ruled, figureOf, Fit, Beyond, four, enterOf, intoOf, Light, Near, cellIn};
 
 // The edge along one direction that ends at a vertex: its two words, the set whose one member is its owner, and its length.
 pub struct Edge {
@@ -19,6 +19,12 @@ pub struct Edge {
 pub struct Pair {
     pub best: u32,
     pub run: u32,
+}
+
+// The words of the two edges that end at a vertex.
+pub struct Cell {
+    pub hor: Pair,
+    pub ver: Pair,
 }
 
 pub fn larger(a: u32, b: u32) -> u32
@@ -49,15 +55,25 @@ fn if_own(e: Edge, o: u32) -> u32
     if e.own == o { e.run } else { 0 }
 }
 
-// The edge along d that ends at position p, by its line along and its line across: one AND gives the owner.
-pub fn edge_at(work: &[u32], p: usize, d: usize, along: Line, across: Line) -> Edge
+// The words of the edge along d that ends at position p.
+pub fn pair_at(work: &[u32], p: usize, d: usize) -> Pair
     requires { ⌜ (p * 4 + 3 < length (now work)) × (d < 2) × (p < 4096) ⌝ }
-    ensures { λ r. ⌜ r ≡ edgeOf (now (work .entry)) p d along across ⌝ }
+    ensures { λ r. ⌜ r ≡ pairOf (now (work .entry)) p d ⌝ }
 {
     let i = p * 4 + d * 2;
-    Edge {
+    Pair {
         best: work[i],
         run: work[i + 1],
+    }
+}
+
+// An edge with these words, by its line along and its line across: one AND gives the owner.
+pub fn edge_by(x: Pair, along: Line, across: Line) -> Edge
+    ensures { λ r. ⌜ r ≡ edgeBy x along across ⌝ }
+{
+    Edge {
+        best: x.best,
+        run: x.run,
         own: across.on & along.into,
         len: along.len,
     }
@@ -68,7 +84,7 @@ fn rule(along: Edge, across: Edge, start: u32, o: u32, len: u32, cross: u32) -> 
     requires { ⌜ (along .best < 2 ^ 31) × (along .run < 2 ^ 31) × (across .best < 2 ^ 31) × (start < 2 ^ 31) × (len < 2 ^ 31) ⌝ }
     ensures { λ r. ⌜ r ≡ ruleOf along across start o len cross ⌝ }
 {
-    let all = larger(larger(along.best, across.best), start);
+    let all = larger(along.best, larger(across.best, start));
     if o == 0 {
         return Pair { best: all, run: 0 };
     }
@@ -78,8 +94,8 @@ fn rule(along: Edge, across: Edge, start: u32, o: u32, len: u32, cross: u32) -> 
             run: 0,
         };
     }
-    let new = larger(larger(unless_own(along, o), unless_own(across, o)), start);
-    let run = larger(plus_len(new, len), plus_len(if_own(along, o), len));
+    let new = larger(unless_own(along, o), larger(unless_own(across, o), start));
+    let run = plus_len(larger(new, if_own(along, o)), len);
     Pair {
         best: larger(all, run),
         run,
@@ -93,28 +109,62 @@ fn start_at(p: usize) -> u32
     if p == 0 { 1 } else { 0 }
 }
 
-// The words of the edge into position p from the one stride before it, on line s along d; none where s is 0.
+// The words of an edge that ends on line s along its direction: none where s is 0. It begins where edges along and across with the words x and y end.
 fn enter(
-    work: &[u32],
     s: usize,
-    stride: usize,
-    p: usize,
-    d: usize,
+    x: Pair,
+    y: Pair,
+    start: u32,
     along: Line,
     before: Line,
     across: Line,
     cross: u32,
 ) -> Pair
-    requires { ⌜ Near (now work) s stride p d (along .len) ⌝ }
-    ensures { λ r. ⌜ r ≡ intoOf (now (work .entry)) s stride p d along before across cross ⌝ }
+    requires { ⌜ ((s ≡ 0 → ⊥) → Light x y start (along .len)) ⌝ }
+    ensures { λ r. ⌜ r ≡ enterOf s x y start along before across cross ⌝ }
 {
     if s == 0 {
         return Pair { best: 0, run: 0 };
     }
-    let u = p - stride;
-    let a = edge_at(work, u, d, before, across);
-    let c = edge_at(work, u, 1 - d, across, before);
-    rule(a, c, start_at(u), across.on & along.into, along.len, cross)
+    let a = edge_by(x, before, across);
+    let c = edge_by(y, across, before);
+    rule(a, c, start, across.on & along.into, along.len, cross)
+}
+
+// The words of the edge along the column into position p, in row b.
+fn from_below(
+    work: &[u32],
+    w: usize,
+    b: usize,
+    p: usize,
+    row: Line,
+    below: Line,
+    col: Line,
+    cross: u32,
+) -> Pair
+    requires { ⌜ Near (now work) b w p 1 (row .len) ⌝ }
+    ensures { λ r. ⌜ r ≡ intoOf (now (work .entry)) b w p 1 row below col cross ⌝ }
+{
+    if b == 0 {
+        return Pair { best: 0, run: 0 };
+    }
+    let u = p - w;
+    let x = pair_at(work, u, 1);
+    let y = pair_at(work, u, 0);
+    enter(b, x, y, start_at(u), row, below, col, cross)
+}
+
+// The words of the edge along the row into position p, in column a. The last cell is handed on, so that it is not read back from the work words.
+fn from_left(a: usize, p: usize, last: Cell, col: Line, left: Line, row: Line, cross: u32) -> Pair
+    requires { ⌜ ((a ≡ 0 → ⊥) → (1 ≤ p) × Light (last .hor) (last .ver) (startOf (p - 1)) (col .len)) ⌝ }
+    ensures { λ r. ⌜ r ≡ enterOf a (last .hor) (last .ver) (startOf (p - 1)) col left row cross ⌝ }
+{
+    if a == 0 {
+        return Pair { best: 0, run: 0 };
+    }
+    let x = last.hor;
+    let y = last.ver;
+    enter(a, x, y, start_at(p - 1), col, left, row, cross)
 }
 
 // The four words of the vertex at position p.
@@ -129,26 +179,28 @@ fn put(work: &mut [u32], p: usize, x: Pair, y: Pair)
     work[k + 3] = y.run;
 }
 
-// The vertex in column a and row b, at position p: left and below are the lines before its column and its row.
+// The vertex in column a and row b, at position p: left and below are the lines before its column and its row, last is the cell before it.
 fn vertex(
     work: &mut [u32],
     w: usize,
     a: usize,
     b: usize,
     p: usize,
+    last: Cell,
     col: Line,
     left: Line,
     row: Line,
     below: Line,
     cross: u32,
-)
-    requires { ⌜ Near (now work) a 1 p 0 (col .len) × Near (now work) b w p 1 (row .len) ⌝ }
-    ensures { λ _. ⌜ now (work .exit) ≡ four (now (work .entry)) (p * 4) (intoOf (now (work .entry)) a 1 p 0 col left row cross)
-        (intoOf (now (work .entry)) b w p 1 row below col cross) ⌝ }
+) -> Cell
+    requires { ⌜ Near (now work) a 1 p 0 (col .len) × Near (now work) b w p 1 (row .len) × ((a ≡ 0 → ⊥) → last ≡ cellIn (now work) (p - 1)) ⌝ }
+    ensures { λ r. ⌜ (now (work .exit) ≡ four (now (work .entry)) (p * 4) (r .hor) (r .ver))
+        × (r .hor ≡ intoOf (now (work .entry)) a 1 p 0 col left row cross) × (r .ver ≡ intoOf (now (work .entry)) b w p 1 row below col cross) ⌝ }
 {
-    let x = enter(&*work, a, 1, p, 0, col, left, row, cross);
-    let y = enter(&*work, b, w, p, 1, row, below, col, cross);
+    let x = from_left(a, p, last, col, left, row, cross);
+    let y = from_below(&*work, w, b, p, row, below, col, cross);
     put(work, p, x, y);
+    Cell { hor: x, ver: y }
 }
 
 // The line before line i; the first line for itself.
@@ -167,18 +219,25 @@ pub fn fill(work: &mut [u32], g: Group)
     let w = g.w;
     let h = g.h;
     let cross = g.cross;
+    let zero = Pair { best: 0, run: 0 };
+    let none = Cell {
+        hor: zero,
+        ver: zero,
+    };
     let mut p: usize = 0;
     let mut b: usize = 0;
     while b < h {
         let i = line_before(b);
         let row = g.rows[b];
         let below = g.rows[i];
+        let mut last = none;
         let mut a: usize = 0;
         while a < w {
             let j = line_before(a);
             let col = g.cols[a];
             let left = g.cols[j];
-            vertex(work, w, a, b, p, col, left, row, below, cross);
+            let cell = vertex(work, w, a, b, p, last, col, left, row, below, cross);
+            last = cell;
             p += 1;
             a += 1;
         }

@@ -86,8 +86,8 @@ fn arrive(work: &[u32], p: usize, col: Line, row: Line, t: Taken, cross: u32) ->
     requires { ⌜ (p * 4 + 3 < length (now work)) × (p < 4096) ⌝ }
     ensures { λ r. ⌜ r ≡ arriveOf (now (work .entry)) p col row t cross ⌝ }
 {
-    let h = crate::fill::edge_at(work, p, 0, col, row);
-    let v = crate::fill::edge_at(work, p, 1, row, col);
+    let h = crate::fill::edge_by(crate::fill::pair_at(work, p, 0), col, row);
+    let v = crate::fill::edge_by(crate::fill::pair_at(work, p, 1), row, col);
     if t.ver {
         return edge_before(t, v, h, cross);
     }

@@ -1,7 +1,6 @@
--- The first line has no edge into it; else the rule is applied to what stands where the edge begins.
-use mathlib.Core.Path.{_≡_, sym, ap, _∙_}
-use Prim.Native.Nat.{_-_}
-use Rattle.table.proofs.Rule.{into-none, into-some, low-edge}
+-- There is no edge into the first line; else the rule is applied to the edges that end where it begins.
+use mathlib.Core.Path.{sym, ap, _∙_}
+use Rattle.table.proofs.Rule.{enter-none, enter-some}
 use borrow.Author.Needs.{needs}
 use native.Mathlib.Omega.{arith}
 use Rattle.table.proofs.fill.enter.Statement.{statement}
@@ -9,61 +8,34 @@ use Rattle.table.proofs.fill.enter.Tie as tie
 
 returns : tie.Need-returns
 returns c =
-    let a = c .before .before .args in
-    sym (into-none (a .work .now) (a .s) (a .stride) (a .p) (a .d) (a .along) (a .before) (a .across) (a .cross) (c .if1 .taken))
+    let a = c .before .args in
+    sym (enter-none (a .s) (a .x) (a .y) (a .start) (a .along) (a .before) (a .across) (a .cross) (c .if1 .taken))
 
-sub-u : tie.Need-sub-u
-sub-u c = c .before .before .pre .back (c .if1 .left)
+edge-by-requires : tie.Need-edge-by-requires
+edge-by-requires c κs = search needs
 
-edge-at-requires : tie.Need-edge-at-requires
-edge-at-requires c κs =
-    let n = c .before .before .pre in
-    (omega arith, omega arith, omega arith)
-
-sub-edge-at : tie.Need-sub-edge-at
-sub-edge-at c = omega (arith, c .before .before .before .pre .either)
-
-edge-at-requires-2 : tie.Need-edge-at-requires-2
-edge-at-requires-2 c κs =
-    let n = c .before .before .before .pre in
-    (omega arith, omega arith, omega arith)
-
-start-at-requires : tie.Need-start-at-requires
-start-at-requires c κs = search needs
+edge-by-requires-2 : tie.Need-edge-by-requires-2
+edge-by-requires-2 c κs = search needs
 
 rule-requires : tie.Need-rule-requires
 rule-requires c κs =
-    let f = c .before .before .before in
-    let s = f .before .before .before .before in
-    let a = s .args in
-    let l = s .pre .low (f .before .before .if1 .left) in
-    let x = low-edge (a .work .now) (a .p - a .stride) (a .d) 126 (s .pre .either) l in
-    let y = low-edge (a .work .now) (a .p - a .stride) (1 - a .d) 126 (omega arith) l in (
-      omega (arith, x .0, ap (λ e. e .best) (f .before .edge-at .ensures)),
-      omega (arith, x .1, ap (λ e. e .run) (f .before .edge-at .ensures)),
-      omega (arith, y .0, ap (λ e. e .best) (f .edge-at2 .ensures)),
-      omega (arith, c .before .before .start-at .ensures),
-      omega (arith, s .pre .short),
+    let e = c .before .before in
+    let l = e .before .before .before .pre (e .before .before .if1 .left) in (
+      omega (arith, l .along-best, ap (λ e. e .best) (e .before .edge-by .ensures)),
+      omega (arith, l .along-run, ap (λ e. e .run) (e .before .edge-by .ensures)),
+      omega (arith, l .across-best, ap (λ e. e .best) (e .edge-by2 .ensures)),
+      omega (arith, l .begins),
+      omega (arith, l .short),
     )
 
 returns-2 : tie.Need-returns-2
 returns-2 c =
     let e = c .before .before .before in
-    let f = e .before in
-    let a = f .before .before .before .before .args in
+    let a = e .before .before .before .args in
     c .rule .ensures
-    ∙ rw (f .before .edge-at .ensures, f .edge-at2 .ensures, e .start-at .ensures .0)
-    (sym (into-some (a .work .now) (a .s) (a .stride) (a .p) (a .d) (a .along) (a .before) (a .across) (a .cross) (f .before .before .if1 .left)))
+    ∙ rw (e .before .edge-by .ensures, e .edge-by2 .ensures)
+    (sym (enter-some (a .s) (a .x) (a .y) (a .start) (a .along) (a .before) (a .across) (a .cross) (e .before .before .if1 .left)))
 
 pub enter-spec : {M : Type 1} → statement M
 enter-spec =
-    tie.close
-    (tie.spec
-    returns
-    sub-u
-    edge-at-requires
-    sub-edge-at
-    edge-at-requires-2
-    start-at-requires
-    rule-requires
-    returns-2)
+    tie.close (tie.spec returns edge-by-requires edge-by-requires-2 rule-requires returns-2)

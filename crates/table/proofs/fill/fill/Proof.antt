@@ -1,26 +1,26 @@
--- Before each turn the vertices before position p are done, and nothing from there on has changed.
+-- Before each turn the vertices before position p are done, nothing from there on has changed, and `last` is the cell before it.
 use Prim.Native.Nat.{ℕ, pred, _≤_, _-_, _+_, _*_}
-use mathlib.Core.Path.{_≡_, refl, sym, ap, _∙_}
+use mathlib.Core.Path.{_≡_, refl, sym, ap, ap₂, _∙_}
 use native.Mathlib.Numerals.{add-one}
 use Rattle.network.specs.Steps.{hor, ver}
-use Rattle.table.specs.Rule.{position, Done, Beyond}
-use Rattle.table.proofs.Filling.{position-first, position-next, position-plus, position-end, position-lt, area, fit-same, near, done-none, done-next, done-all, beyond-none, beyond-next, beyond-more}
+use Rattle.table.specs.Rule.{position, Done, Beyond, four, cellIn}
+use Rattle.table.proofs.Filling.{position-first, position-next, position-plus, position-end, position-lt, area, fit-same, near, done-none, done-next, done-all, beyond-none, beyond-next, beyond-more, cell-next}
 use borrow.Author.Needs.{needs}
 use native.Mathlib.Omega.{arith}
 use Rattle.table.proofs.fill.fill.Statement.{statement}
 use Rattle.table.proofs.fill.fill.Tie as tie
 
 abbrev Inv-loop2 : tie.InvT-loop2
-Inv-loop2 work₀ g w h cross p₀ b i row below a₀ work p a = (a ≤ g .w) × (p ≡ position (g .w) a b) × Done g work p × Beyond work₀ work (p * 4)
+Inv-loop2 work₀ g w h cross none p₀ b i row below last₀ a₀ work p last a = (a ≤ g .w) × (p ≡ position (g .w) a b) × Done g work p × Beyond work₀ work (p * 4) × ((a ≡ 0 → ⊥) → last ≡ cellIn work (p - 1))
 
 abbrev μ-loop2 : tie.MeasureT-loop2
-μ-loop2 work₀ g w h cross p₀ b i row below a₀ work p a = w - a
+μ-loop2 work₀ g w h cross none p₀ b i row below last₀ a₀ work p last a = w - a
 
 abbrev Inv-loop : tie.InvT-loop
-Inv-loop work₀ g w h cross p₀ b₀ work p b = (b ≤ g .h) × (p ≡ position (g .w) 0 b) × Done g work p × Beyond work₀ work (p * 4)
+Inv-loop work₀ g w h cross none p₀ b₀ work p b = (b ≤ g .h) × (p ≡ position (g .w) 0 b) × Done g work p × Beyond work₀ work (p * 4)
 
 abbrev μ-loop : tie.MeasureT-loop
-μ-loop work₀ g w h cross p₀ b₀ work p b = h - b
+μ-loop work₀ g w h cross none p₀ b₀ work p b = h - b
 
 loop-holds : tie.Need-loop-holds Inv-loop2 μ-loop2 Inv-loop μ-loop
 loop-holds c = (search needs, omega (arith, position-first (c .before .args .t2 .w) 0), done-none _ _, beyond-none _ _)
@@ -43,7 +43,7 @@ element-copy-out-below c = search needs
 loop2-holds : tie.Need-loop2-holds Inv-loop2 μ-loop2 Inv-loop μ-loop
 loop2-holds c =
     let l = c .before .before .before .before in
-    (search needs, l .loop .inv .1, l .loop .inv .2, beyond-none _ _)
+    (search needs, l .loop .inv .1, l .loop .inv .2, beyond-none _ _, λ z. absurd (z refl))
 
 line-before-requires-2 : tie.Need-line-before-requires-2 Inv-loop2 μ-loop2 Inv-loop μ-loop
 line-before-requires-2 c κs = search needs
@@ -69,6 +69,7 @@ vertex-requires c κs =
     let f = fit-same g _ (l .loop2 .work) (l .loop2 .inv .3 .size ∙ o .loop .inv .3 .size) (s .pre) in (
       near g (l .loop2 .work) (l .loop2 .p) f (l .loop2 .inv .2) hor (l .loop2 .a) (o .loop .b) (omega arith) (omega arith) (l .loop2 .inv .1),
       near g (l .loop2 .work) (l .loop2 .p) f (l .loop2 .inv .2) ver (o .loop .b) (l .loop2 .a) (omega arith) (omega arith) (l .loop2 .inv .1),
+      l .loop2 .inv .4,
     )
 
 add-p : tie.Need-add-p Inv-loop2 μ-loop2 Inv-loop μ-loop
@@ -92,12 +93,16 @@ loop2-again c =
     let o = l .before .before .before .before .before in
     let s = o .before .before in
     let g = s .args .t2 in
+    let e = v .vertex .ensures in
     let f = fit-same g _ (l .loop2 .work) (l .loop2 .inv .3 .size ∙ o .loop .inv .3 .size) (s .pre) in
-    let m = rw (v .before .before .before .before .line-before2 .ensures, l .before .before .before .line-before .ensures) at (v .vertex .ensures) in (
+    let n = near g (l .loop2 .work) (l .loop2 .p) f (l .loop2 .inv .2) hor (l .loop2 .a) (o .loop .b) (omega arith) (omega arith) (l .loop2 .inv .1) in
+    let m = rw (v .before .before .before .before .line-before2 .ensures, l .before .before .before .line-before .ensures) at (e .0 ∙ ap₂ (four (l .loop2 .work) (l .loop2 .p * 4)) (e .1) (e .2)) in
+    let z : l .loop2 .p + 1 - 1 ≡ l .loop2 .p = omega arith in (
       search needs,
       rw (add-one (l .loop2 .a), position-next (g .w) (l .loop2 .a) (o .loop .b), ← l .loop2 .inv .1) (add-one (l .loop2 .p)),
       done-next g (l .loop2 .work) (l .loop2 .p) f (l .loop2 .inv .2) (o .loop .work) _ (l .loop2 .a) (o .loop .b) (omega arith) (omega arith) (l .loop2 .inv .1) m,
       beyond-next g (l .loop2 .work) (l .loop2 .p) f (l .loop2 .inv .2) (o .loop .work) _ (l .loop2 .a) (o .loop .b) (omega arith) (omega arith) (l .loop2 .inv .1) m (l .loop2 .inv .3),
+      λ _. rw (z, e .0) (cell-next (l .loop2 .work) (l .loop2 .p) (v .vertex .result) (n .room)),
     )
 
 add-b : tie.Need-add-b Inv-loop2 μ-loop2 Inv-loop μ-loop

@@ -1,7 +1,7 @@
 -- Each return is a case of the rule.
 use mathlib.Core.Path.{_≡_, refl, sym, _∙_, ap₂}
-use Rattle.table.specs.Rule.{pair, allOf, stretchOf}
-use Rattle.table.proofs.Rule.{rule-free, rule-same, rule-cross}
+use Rattle.table.specs.Rule.{pair, unlessOwn, ifOwn, allOf, newOf, stretchOf}
+use Rattle.table.proofs.Rule.{max-three, plus-max, rule-free, rule-same, rule-cross}
 use borrow.Author.Needs.{needs}
 use Rattle.table.proofs.fill.rule.Statement.{statement}
 use Rattle.table.proofs.fill.rule.Tie as tie
@@ -16,7 +16,7 @@ returns : tie.Need-returns
 returns c =
     let l = c .before in
     let a = l .before .before .args in
-    let e : l .larger2 .result ≡ allOf (a .along) (a .across) (a .start) = rw (l .larger2 .ensures, l .before .larger .ensures) in
+    let e : l .larger2 .result ≡ allOf (a .along) (a .across) (a .start) = rw (l .larger2 .ensures, l .before .larger .ensures) (max-three (a .along .best) (a .across .best) (a .start)) in
     ap₂ pair e refl ∙ sym (rule-free (a .along) (a .across) (a .start) (a .o) (a .len) (a .cross) (c .if1 .taken))
 
 plus-len-requires : tie.Need-plus-len-requires
@@ -26,7 +26,7 @@ returns-2 : tie.Need-returns-2
 returns-2 c =
     let l = c .before .before .before in
     let a = l .before .before .args in
-    let e : l .larger2 .result ≡ allOf (a .along) (a .across) (a .start) = rw (l .larger2 .ensures, l .before .larger .ensures) in
+    let e : l .larger2 .result ≡ allOf (a .along) (a .across) (a .start) = rw (l .larger2 .ensures, l .before .larger .ensures) (max-three (a .along .best) (a .across .best) (a .start)) in
     ap₂ pair (rw (c .plus-len .ensures .0, e)) refl
     ∙ sym (rule-same (a .along) (a .across) (a .start) (a .o) (a .len) (a .cross) (c .before .before .if1 .left) (c .before .if2 .taken))
 
@@ -42,33 +42,32 @@ larger-requires-3 c κs = search needs
 larger-requires-4 : tie.Need-larger-requires-4
 larger-requires-4 c κs = search needs
 
-plus-len-requires-2 : tie.Need-plus-len-requires-2
-plus-len-requires-2 c κs = search needs
-
 if-own-requires : tie.Need-if-own-requires
 if-own-requires c κs = search needs
 
-plus-len-requires-3 : tie.Need-plus-len-requires-3
-plus-len-requires-3 c κs = search needs
-
 larger-requires-5 : tie.Need-larger-requires-5
 larger-requires-5 c κs = search needs
+
+plus-len-requires-2 : tie.Need-plus-len-requires-2
+plus-len-requires-2 c κs = search needs
 
 larger-requires-6 : tie.Need-larger-requires-6
 larger-requires-6 c κs = search needs
 
 returns-3 : tie.Need-returns-3
 returns-3 c =
-    let x = c .before in
-    let m = x .before .before .before in
-    let n = m .before .before in
-    let l = n .before .before .before .before .before in
+    let p = c .before in
+    let m = p .before .before .before in
+    let u = m .before .before in
+    let l = u .before .before .before .before in
     let a = l .before .before .args in
-    let e : l .larger2 .result ≡ allOf (a .along) (a .across) (a .start) = rw (l .larger2 .ensures, l .before .larger .ensures) in
-    let f : x .larger5 .result ≡ stretchOf (a .along) (a .across) (a .start) (a .o) (a .len)
-    = rw (x .larger5 .ensures, m .plus-len2 .ensures .0, m .before .larger4 .ensures, n .larger3 .ensures, n .before .unless-own2 .ensures .0, n .before .before .unless-own .ensures .0, x .before .plus-len3 .ensures .0, x .before .before .if-own .ensures .0) in
+    let e : l .larger2 .result ≡ allOf (a .along) (a .across) (a .start) = rw (l .larger2 .ensures, l .before .larger .ensures) (max-three (a .along .best) (a .across .best) (a .start)) in
+    let n : m .larger4 .result ≡ newOf (a .along) (a .across) (a .start) (a .o)
+    = rw (m .larger4 .ensures, m .before .larger3 .ensures, u .unless-own2 .ensures .0, u .before .unless-own .ensures .0) (max-three (unlessOwn (a .along) (a .o)) (unlessOwn (a .across) (a .o)) (a .start)) in
+    let f : p .plus-len2 .result ≡ stretchOf (a .along) (a .across) (a .start) (a .o) (a .len)
+    = rw (p .plus-len2 .ensures .0, p .before .larger5 .ensures, n, p .before .before .if-own .ensures .0) (plus-max (newOf (a .along) (a .across) (a .start) (a .o)) (ifOwn (a .along) (a .o)) (a .len)) in
     ap₂ pair (rw (c .larger6 .ensures, e, f)) f
-    ∙ sym (rule-cross (a .along) (a .across) (a .start) (a .o) (a .len) (a .cross) (n .before .before .before .before .if1 .left) (n .before .before .before .if2 .left))
+    ∙ sym (rule-cross (a .along) (a .across) (a .start) (a .o) (a .len) (a .cross) (u .before .before .before .if1 .left) (u .before .before .if2 .left))
 
 pub rule-spec : {M : Type 1} → statement M
 rule-spec =
@@ -83,9 +82,8 @@ rule-spec =
     unless-own-requires-2
     larger-requires-3
     larger-requires-4
-    plus-len-requires-2
     if-own-requires
-    plus-len-requires-3
     larger-requires-5
+    plus-len-requires-2
     larger-requires-6
     returns-3)
