@@ -1,6 +1,6 @@
 -- One axis in two countings: by steps from the centre's first line, as the code counts, and by numbers in the centre's view, as `sharing` counts.
 -- The view counts the n lines forth or, where the centre goes back, from the last one.
-use mathlib.Core.Path.{_≡_, refl, sym, _∙_}
+use mathlib.Core.Path.{_≡_, refl}
 use mathlib.Core.Bool.{Bool, true, false, _&&_}
 use Prim.Native.Nat.{ℕ, suc, _+_, _-_, _≤_, _<_, min, max}
 use native.Mathlib.Omega.{arith}

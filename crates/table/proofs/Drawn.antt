@@ -5,22 +5,20 @@ use mathlib.Core.Bool.{Bool, true, false, cond, not, _&&_, _||_}
 use mathlib.Core.List.{List, [], _∷_, reverse}
 use Prim.Native.Nat.{ℕ, zero, suc, pred, _+_, _-_, _*_, _≤_, _<_, max}
 use native.Mathlib.Omega.{arith}
-use native.Mathlib.Nat.{mul-le-mul-right, suc-mul}
-use native.Mathlib.Decide.{ℕ-discrete}
+use native.Mathlib.Nat.{suc-mul}
 use lib.Dec.{eqb, leb, ltb}
 use borrow.Author.Tests.{eq-eqb, ne-eqb, lt-ltb}
 use Rattle.network.specs.Steps.{Dir, hor, ver, other}
 use Rattle.sharing.specs.Instance.{Instance, Inside, Owner, none, same, cross, owner}
 use Rattle.sharing.specs.Table.{Flag, best, run, Table, atStart, all, unless, only, arrival, from, bestOf, runOf, Exact, figure}
-use Rattle.sharing.specs.Trace.{Move, State, settle, shareOf, settled, come, comeBest, comeFrom, begins, nextRun, nextBy, ownerOf, next, here, back, trace}
+use Rattle.sharing.specs.Trace.{Move, State, settled, come, comeBest, comeFrom, begins, nextRun, nextBy, ownerOf, next, here, back, trace}
 use Rattle.sharing.proofs.Steps.{coord}
 use Rattle.sharing.proofs.Table.{from-far}
 use Rattle.sharing.proofs.Trace.{Ready, last-ready, next-ready}
 use Rattle.table.specs.declared.frame.Group.{Group}
-use Rattle.table.specs.declared.fill.Edge.{Edge}
 use Rattle.table.specs.declared.trace.Taken.{Taken}
-use Rattle.table.specs.Rule.{many, lineAt, position, spot, dirNo, tableOf, ownSet, edgeAt, pair, unlessOwn, allOf, ruleOf, startOf, entered, cellOf, pairAt, Ruled, figureOf}
-use Rattle.table.specs.Walk.{isCross, takenBy, chosen, otherwise, beginsWith, beforeOf, arriveAt, upNo, shareNo, shareIf, dirBy, moveBy, walk, begin, walked}
+use Rattle.table.specs.Rule.{many, lineAt, position, spot, dirNo, tableOf, ownSet, edgeAt, pair, unlessOwn, startOf, entered, pairAt, Ruled, figureOf}
+use Rattle.table.specs.Walk.{takenBy, chosen, beginsWith, beforeOf, arriveAt, upNo, shareNo, dirBy, moveBy, walk, begin, walked}
 use Rattle.table.proofs.Walking.{arrive-up, arrive-right}
 use Rattle.table.proofs.Named.{Names, isRun, unless-named, named-rule, cross-named, share-named}
 

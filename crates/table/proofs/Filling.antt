@@ -5,7 +5,7 @@ use mathlib.Core.Logic.{_⊎_, inl, inr, ⊎-elim}
 use mathlib.Core.Bool.{Bool, true, false, cond}
 use mathlib.Core.List.{List}
 use Prim.Native.Nat.{ℕ, zero, suc, pred, _+_, _-_, _*_, _≤_, _<_, max, zero-le, suc-le-suc}
-use native.Mathlib.Nat.{add-zero, mul-le-mul, mul-le-mul-right, suc-mul, zero-mul, add-mul, eq-or-lt-of-le}
+use native.Mathlib.Nat.{add-zero, mul-le-mul, mul-le-mul-right, suc-mul}
 use native.Mathlib.Omega.{arith}
 use native.Mathlib.Decide.{decLt}
 use lib.Dec.{eqb}
@@ -17,8 +17,29 @@ use Rattle.table.specs.declared.frame.Line.{Line}
 use Rattle.table.specs.declared.frame.Group.{Group}
 use Rattle.table.specs.declared.fill.Pair.{Pair}
 use Rattle.table.specs.declared.fill.Cell.{Cell}
-use Rattle.table.specs.Rule.{many, lineAt, position, spot, dirNo, tableOf, ownSet, edgeAt, pair, pairOf, edgeBy, ruleOf, startOf, entered, cellOf, pairAt, Ruled, figureOf, Fit, Low, Done, Beyond, four, enterOf, intoOf, Light, Near, cellIn}
-use Rattle.table.proofs.Rule.{enter-none, enter-some, low-edge, rule-le}
+use Rattle.table.specs.Rule.{many, lineAt, position, spot, dirNo, ownSet, edgeAt, pair, pairOf, edgeBy, ruleOf, startOf, entered, cellOf, pairAt, Ruled, figureOf, Fit, Beyond, four, enterOf, intoOf, Light, Near, cellIn}
+use Rattle.table.proofs.Rule.{enter-none, enter-some, rule-le}
+
+-- ---- what holds between two turns
+
+-- the four words at position p are no larger than n edges can make them
+abbrev pub Low : List ℕ → ℕ → ℕ → Type 0
+Low words p n = (k : ℕ) → k < 4 → getD words (p * 4 + k) 0 ≤ 1 + n * 2000000
+
+-- the vertices at positions below n are done
+pub record Done (g : Group) (words : List ℕ) (n : ℕ) : Type 0 where
+  pub ruled : (d : Dir) (s t : ℕ) → s < many g d → t < many g (other d) → spot (g .w) d s t < n → pairAt (g .w) words d s t ≡ cellOf g words d s t
+  pub low : (a b : ℕ) → a < g .w → position (g .w) a b < n → Low words (position (g .w) a b) (a + b)
+
+-- the words that an edge is read from are low
+pub low-edge : (words : List ℕ) (u d n : ℕ) → d < 2 → Low words u n → (pairOf words u d .best ≤ 1 + n * 2000000) × (pairOf words u d .run ≤ 1 + n * 2000000)
+low-edge words u zero n h l =
+    let e : u * 4 + 0 + 1 ≡ u * 4 + 1 = omega arith in
+    (l 0 (omega arith), rw e (l 1 (omega arith)))
+low-edge words u (suc zero) n h l =
+    let e : u * 4 + 2 + 1 ≡ u * 4 + 3 = omega arith in
+    (l 2 (omega arith), rw e (l 3 (omega arith)))
+low-edge words u (suc (suc d)) n h l = absurd (omega arith)
 
 -- ---- positions
 

@@ -1,10 +1,8 @@
 -- A set with one member names an owner. Then words are compared instead of leaves, one AND tells a cross owner, and the rule of an edge is the
 -- rule of `sharing`.
 use mathlib.Core.Path.{_≡_, refl, sym, ap, ap₂, _∙_}
-use mathlib.Core.Logic.{_⊎_, inl, inr}
 use mathlib.Core.Bool.{Bool, true, false, cond, not, _&&_, true≢false}
-use mathlib.Core.List.{List, [], _∷_}
-use Prim.Native.Nat.{ℕ, zero, suc, _+_, _^_, _≤_, _<_, max}
+use Prim.Native.Nat.{ℕ, suc, _^_, _<_, max}
 use native.Mathlib.Omega.{arith}
 use native.Mathlib.Nat.{lt-of-le-of-lt}
 use native.Mathlib.Decide.{ℕ-discrete}
@@ -12,15 +10,14 @@ use lib.Bits.{bitAnd, and-zero-l, and-le-l}
 use lib.Dec.{eqb, ltb}
 use lib.ListN.{getD}
 use lib.Pow.{pow-pos, pow-lt}
-use borrow.Author.Tests.{eqb-true, eqb-false, eq-eqb, ne-eqb, lt-ltb}
+use borrow.Author.Tests.{eqb-true, eq-eqb, ne-eqb, lt-ltb}
 use Rattle.sharing.specs.Instance.{Owner, none, same, cross}
 use Rattle.sharing.specs.Table.{Flag, best, run, zeroIf, unless, only, plus, bestOf, runOf}
-use Rattle.sharing.specs.Trace.{Share, alone, with, settle, shareOf}
+use Rattle.sharing.specs.Trace.{with, settle, shareOf}
 use Rattle.intersection.specs.Sets.{has, members}
 use Rattle.intersection.proofs.Digits.{has-and, has-power, none-has, same-set}
 use Rattle.intersection.proofs.Lists.{select-first}
 use Rattle.table.specs.declared.fill.Edge.{Edge}
-use Rattle.table.specs.declared.fill.Pair.{Pair}
 use Rattle.table.specs.declared.trace.Taken.{Taken}
 use Rattle.table.specs.Rule.{pair, unlessOwn, ifOwn, allOf, stretchOf, ruleOf}
 use Rattle.table.specs.Walk.{isCross, shareIf, shareNo}

@@ -1,18 +1,16 @@
 -- Laws of the rule of one edge: its cases, and bounds of its words.
-use mathlib.Core.Path.{_≡_, refl, ap₂}
+use mathlib.Core.Path.{_≡_, refl}
 use mathlib.Core.Bool.{Bool, true, false, cond}
-use mathlib.Core.List.{List}
-use Prim.Native.Nat.{ℕ, zero, suc, _+_, _-_, _*_, _≤_, _<_, max}
+use Prim.Native.Nat.{ℕ, zero, suc, _+_, _≤_, max}
 use native.Mathlib.Omega.{arith}
 use lib.Bits.{bitAnd}
 use lib.Dec.{eqb}
-use lib.ListN.{getD}
 use borrow.Author.Tests.{eq-eqb, ne-eqb}
 use Rattle.sharing.specs.Table.{plus}
 use Rattle.table.specs.declared.frame.Line.{Line}
 use Rattle.table.specs.declared.fill.Edge.{Edge}
 use Rattle.table.specs.declared.fill.Pair.{Pair}
-use Rattle.table.specs.Rule.{pair, pairOf, edgeBy, unlessOwn, ifOwn, allOf, newOf, stretchOf, ruleOf, Low, enterOf}
+use Rattle.table.specs.Rule.{pair, edgeBy, unlessOwn, ifOwn, allOf, newOf, stretchOf, ruleOf, enterOf}
 
 -- ---- cases
 
@@ -75,16 +73,6 @@ module _ (s : ℕ) (x y : Pair) (start : ℕ) (along before across : Line) (cros
       ≡ ruleOf (edgeBy x before across) (edgeBy y across before) start (bitAnd (across .on) (along .into)) (along .len) cross
   unfolding enterOf
   enter-some h = rw (ne-eqb s 0 h)
-
--- the words that an edge is read from are low
-pub low-edge : (words : List ℕ) (u d n : ℕ) → d < 2 → Low words u n → (pairOf words u d .best ≤ 1 + n * 2000000) × (pairOf words u d .run ≤ 1 + n * 2000000)
-low-edge words u zero n h l =
-    let e : u * 4 + 0 + 1 ≡ u * 4 + 1 = omega arith in
-    (l 0 (omega arith), rw e (l 1 (omega arith)))
-low-edge words u (suc zero) n h l =
-    let e : u * 4 + 2 + 1 ≡ u * 4 + 3 = omega arith in
-    (l 2 (omega arith), rw e (l 3 (omega arith)))
-low-edge words u (suc (suc d)) n h l = absurd (omega arith)
 
 -- ---- bounds
 

@@ -2,37 +2,36 @@
 -- edge's set; no two leaves meet, so the set has one member or none.
 use mathlib.Core.Path.{_≡_, refl, sym, ap, ap₂, _∙_}
 use mathlib.Core.Logic.{_⊎_, inl, inr}
-use mathlib.Core.Bool.{Bool, true, false, cond, _&&_, _||_, true≢false}
+use mathlib.Core.Bool.{Bool, true, false, _&&_, true≢false}
 use mathlib.Core.List.{List}
 use Prim.Native.Nat.{ℕ, zero, suc, _+_, _-_, _*_, _^_, _≤_, _<_}
 use native.Mathlib.Omega.{arith}
-use native.Mathlib.Nat.{lt-of-le-of-lt, lt-of-lt-of-le, eq-or-lt-of-le}
-use native.Mathlib.Decide.{ℕ-discrete, decLt}
+use native.Mathlib.Nat.{lt-of-le-of-lt, eq-or-lt-of-le}
 use lib.Bits.{bitAnd, and-zero-r, and-le-l}
 use lib.Count.{trailingZeros, trailing-le}
 use lib.Dec.{eqb, ltb}
 use lib.ListN.{length, getD}
-use lib.Pow.{pow-pos, pow-lt, pow-mono}
+use lib.Pow.{pow-pos, pow-lt}
 use borrow.Author.Tests.{eq-eqb, ne-eqb}
 use Rattle.network.specs.Plane.{Run, gap}
 use Rattle.network.specs.Grid.{Grid}
 use Rattle.network.specs.Graph.{runAt, meets}
 use Rattle.network.specs.Steps.{Dir, hor, ver, other}
-use Rattle.network.proofs.Tests.{and-split, and-join, outcome}
+use Rattle.network.proofs.Tests.{and-split, outcome}
 use Rattle.sharing.specs.Box.{Box, lo, hi, passes, liesIn, falls}
-use Rattle.sharing.specs.Instance.{Instance, Owner, none, same, cross, ownerIf, owner}
+use Rattle.sharing.specs.Instance.{Instance, cross, ownerIf, owner}
 use Rattle.sharing.specs.Table.{arrival}
-use Rattle.sharing.specs.View.{lines, View, facing, index, numbered, boxAt}
+use Rattle.sharing.specs.View.{lines, View, facing, numbered, boxAt}
 use Rattle.sharing.specs.Star.{starOf, Centred}
-use Rattle.sharing.proofs.Owners.{Lies, EdgeIn, Separate, lies-in, in-lies}
-use Rattle.sharing.proofs.Centre.{meets-listed, leaf-lies, lies-leaf, separate, leaf-owner, no-owner}
+use Rattle.sharing.proofs.Owners.{Lies, EdgeIn, lies-in, in-lies}
+use Rattle.sharing.proofs.Centre.{meets-listed, lies-leaf, separate, leaf-owner, no-owner}
 use Rattle.sharing.proofs.Runs.{Indexed}
-use Rattle.intersection.specs.Sets.{has, pack}
-use Rattle.intersection.proofs.Digits.{has-and, has-power, has-pack, has-pack-above, none-has, same-set, trailing-below, trailing-at}
+use Rattle.intersection.specs.Sets.{has}
+use Rattle.intersection.proofs.Digits.{has-and, has-power, has-pack, none-has, same-set, trailing-below, trailing-at}
 use Rattle.table.specs.declared.side.Side.{Side}
 use Rattle.table.specs.declared.frame.Group.{Group}
 use Rattle.table.specs.Side.{firstOf, secondOf, Placed, covers, leafOn, leavesOn}
-use Rattle.table.specs.Frame.{lineOf, lowerOf, blank, frameLine, ahead, goesDown, crosses, FrameLines, Grouped}
+use Rattle.table.specs.Frame.{lineOf, lowerOf, frameLine, ahead, goesDown, crosses, Grouped}
 use Rattle.table.specs.Rule.{many, lineAt, ownSet, Fit}
 use Rattle.table.proofs.Boxes.{leaves-lt}
 use Rattle.table.proofs.Lines.{gap-lt, lower-lt}

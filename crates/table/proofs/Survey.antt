@@ -1,31 +1,29 @@
 -- From the arrays of a job to its sides, its group and its star: what the functions of this crate promise, put together. So the table that `fill` leaves
 -- is exact for the star, `figure_of` answers the star's figure, and `trace_of` its traced moves.
-use mathlib.Core.Path.{_≡_, refl, sym, ap, _∙_, subst}
+use mathlib.Core.Path.{_≡_, ap, _∙_}
 use mathlib.Core.Bool.{true}
 use mathlib.Core.List.{List}
-use Prim.Native.Nat.{ℕ, suc, pred, _+_, _-_, _*_, _≤_, _<_}
+use Prim.Native.Nat.{ℕ, suc, pred, _-_, _≤_, _<_}
 use native.Mathlib.Omega.{arith}
 use native.Mathlib.Decide.{decLt}
 use lib.ListN.{length, getD}
 use Rattle.network.specs.Grid.{Rising, Grid}
-use Rattle.network.specs.Route.{Listed, Vertex}
+use Rattle.network.specs.Route.{Listed}
 use Rattle.network.specs.Hanan.{distinct, hanan}
 use Rattle.network.specs.Plane.{Run}
 use Rattle.network.specs.Graph.{runAt, meets, isCentre, below}
 use Rattle.network.specs.Boxes.{Placed}
 use Rattle.network.specs.Steps.{Dir, hor, ver}
 use Rattle.sharing.specs.Table.{Exact, figure}
-use Rattle.sharing.specs.Trace.{trace}
 use Rattle.sharing.specs.Walk.{Traced}
 use Rattle.sharing.specs.Star.{starOf, Centred}
-use Rattle.sharing.specs.View.{lines}
 use Rattle.sharing.proofs.Trace.{traced}
-use Rattle.sharing.proofs.Runs.{Indexed, indexed-shows, facing-rises}
+use Rattle.sharing.proofs.Runs.{indexed-shows, facing-rises}
 use Rattle.sharing.proofs.Theorem.{star-centred}
 use Rattle.grid.specs.declared.Axis.{Axis}
 use Rattle.grid.specs.Tables.{table, padded}
-use Rattle.grid.specs.Runs.{runOf, runsOf}
-use Rattle.grid.specs.Lines.{values, axisOf, indexOf, lengthAt}
+use Rattle.grid.specs.Runs.{runsOf}
+use Rattle.grid.specs.Lines.{values, axisOf, lengthAt}
 use Rattle.grid.proofs.Tables.{length-table, getD-table, getD-padded, getD-behind}
 use Rattle.grid.proofs.Places.{position-line, axis-lengths}
 use Rattle.grid.proofs.Values.{few-lines}
@@ -36,10 +34,10 @@ use Rattle.table.specs.declared.frame.Group.{Group}
 use Rattle.table.specs.Side.{Sided, firstOf, secondOf}
 use Rattle.table.specs.Side
 use Rattle.table.specs.Frame.{Grouped}
-use Rattle.table.specs.Rule.{tableOf, Ruled, figureOf, Fit}
+use Rattle.table.specs.Rule.{tableOf, Ruled, figureOf}
 use Rattle.table.specs.Walk.{walked}
 use Rattle.table.proofs.Drawn.{ruled-exact, figure-drawn, walked-trace}
-use Rattle.table.proofs.Star.{sideAt, firsts, seconds, Surveyed, viewOf, boxOf, group-drawn, group-fit}
+use Rattle.table.proofs.Star.{sideAt, firsts, seconds, Surveyed, viewOf, boxOf, group-drawn}
 
 -- ---- one axis
 

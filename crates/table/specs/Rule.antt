@@ -1,14 +1,14 @@
 -- The table in the work words, and the local rule of its words in terms of the group's sets. The owner of an edge is the one member of a set: the
 -- leaves on the line across, of those that have both lines along. (What the rule means by owners, walks and sharing: crate `sharing`.)
 use mathlib.Core.Path.{_≡_}
-use mathlib.Core.Bool.{Bool, true, false, cond}
+use mathlib.Core.Bool.{cond}
 use mathlib.Core.List.{List}
-use Prim.Native.Nat.{ℕ, zero, suc, pred, _+_, _-_, _*_, _^_, _≤_, _<_, max}
+use Prim.Native.Nat.{ℕ, zero, suc, pred, _+_, _-_, _*_, _≤_, _<_, max}
 use lib.Bits.{bitAnd}
 use lib.Dec.{eqb}
 use lib.ListN.{length, getD, set}
 use Rattle.network.specs.Steps.{Dir, hor, ver, other}
-use Rattle.sharing.specs.Table.{Flag, best, run, Table, atStart, plus}
+use Rattle.sharing.specs.Table.{best, run, Table, plus}
 use Rattle.table.specs.declared.frame.Line.{Line}
 use Rattle.table.specs.declared.frame.Group.{Group}
 use Rattle.table.specs.declared.fill.Edge.{Edge}
@@ -131,15 +131,6 @@ pub record Fit (g : Group) (words : List ℕ) : Type 0 where
   pub rows : g .h ≤ 64
   pub room : g .h * g .w * 4 ≤ length words
   pub short : (d : Dir) (s : ℕ) → s < many g d → lineAt g d s .len ≤ 2000000
-
--- the four words at position p are no larger than n edges can make them
-abbrev pub Low : List ℕ → ℕ → ℕ → Type 0
-Low words p n = (k : ℕ) → k < 4 → getD words (p * 4 + k) 0 ≤ 1 + n * 2000000
-
--- the vertices at positions below n are done
-pub record Done (g : Group) (words : List ℕ) (n : ℕ) : Type 0 where
-  pub ruled : (d : Dir) (s t : ℕ) → s < many g d → t < many g (other d) → spot (g .w) d s t < n → pairAt (g .w) words d s t ≡ cellOf g words d s t
-  pub low : (a b : ℕ) → a < g .w → position (g .w) a b < n → Low words (position (g .w) a b) (a + b)
 
 -- nothing from n on has changed
 pub record Beyond (old new : List ℕ) (n : ℕ) : Type 0 where

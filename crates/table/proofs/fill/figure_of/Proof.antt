@@ -1,6 +1,4 @@
 -- The last position is that of the last vertex.
-use mathlib.Core.Path.{_≡_, _∙_, sym}
-use Prim.Native.Nat.{pred, _-_}
 use Rattle.table.proofs.Filling.{area, last-fits, figure-is}
 use borrow.Author.Needs.{needs}
 use native.Mathlib.Omega.{arith}

@@ -1,10 +1,10 @@
 -- Before each turn the vertices before position p are done, nothing from there on has changed, and `last` is the cell before it.
-use Prim.Native.Nat.{ℕ, pred, _≤_, _-_, _+_, _*_}
+use Prim.Native.Nat.{_≤_, _-_, _+_, _*_}
 use mathlib.Core.Path.{_≡_, refl, sym, ap, ap₂, _∙_}
 use native.Mathlib.Numerals.{add-one}
 use Rattle.network.specs.Steps.{hor, ver}
-use Rattle.table.specs.Rule.{position, Done, Beyond, four, cellIn}
-use Rattle.table.proofs.Filling.{position-first, position-next, position-plus, position-end, position-lt, area, fit-same, near, done-none, done-next, done-all, beyond-none, beyond-next, beyond-more, cell-next}
+use Rattle.table.specs.Rule.{position, Beyond, four, cellIn}
+use Rattle.table.proofs.Filling.{Done, position-first, position-next, position-plus, position-end, position-lt, area, fit-same, near, done-none, done-next, done-all, beyond-none, beyond-next, beyond-more, cell-next}
 use borrow.Author.Needs.{needs}
 use native.Mathlib.Omega.{arith}
 use Rattle.table.proofs.fill.fill.Statement.{statement}

@@ -1,5 +1,4 @@
 -- By the same test as the definition.
-use mathlib.Core.Path.{sym}
 use Rattle.table.proofs.Rule.{if-yes, if-no}
 use native.Mathlib.Omega.{arith}
 use Rattle.table.proofs.fill.if_own.Statement.{statement}

@@ -1,5 +1,4 @@
 -- By the same test as the definition.
-use mathlib.Core.Path.{refl}
 use borrow.Author.Tests.{eq-eqb, ne-eqb}
 use native.Mathlib.Omega.{arith}
 use Rattle.table.proofs.fill.start_at.Statement.{statement}

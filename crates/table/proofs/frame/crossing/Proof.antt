@@ -1,6 +1,6 @@
 -- Before each turn the set is that of the runs below k.
 use Prim.Native.Nat.{_≤_, _-_}
-use mathlib.Core.Path.{_≡_, refl, sym, ap, _∙_}
+use mathlib.Core.Path.{_≡_, refl, sym}
 use lib.Dec.{ltb}
 use Rattle.intersection.specs.Sets.{pack}
 use Rattle.intersection.proofs.Digits.{pack-lt}

@@ -1,6 +1,4 @@
 -- The first line has no line before it; at every other line the definition's two positions are those of the calls.
-use mathlib.Core.Path.{_≡_}
-use Prim.Native.Nat.{suc, _-_}
 use Rattle.table.proofs.Lines.{first-line, next-line}
 use borrow.Author.Needs.{needs}
 use Rattle.table.proofs.frame.line_at.Statement.{statement}

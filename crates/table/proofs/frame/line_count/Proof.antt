@@ -1,5 +1,4 @@
 -- One line more than there are steps.
-use mathlib.Core.Path.{_∙_}
 use native.Mathlib.Numerals.{add-one}
 use Rattle.table.specs.Side.{firstOf, secondOf}
 use Rattle.table.proofs.Lines.{gap-lt}

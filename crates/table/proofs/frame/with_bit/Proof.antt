@@ -1,5 +1,4 @@
 -- The bit of k is added where the test holds.
-use Prim.Native.Nat.{_+_, _^_}
 use Rattle.intersection.proofs.Digits.{shl-one}
 use Rattle.table.proofs.Boxes.{bit-fits}
 use borrow.Author.Needs.{needs}

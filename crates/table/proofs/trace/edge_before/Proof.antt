@@ -1,5 +1,5 @@
 -- By the same cases as the definition.
-use mathlib.Core.Path.{refl, sym, _∙_}
+use mathlib.Core.Path.{sym, _∙_}
 use Rattle.table.specs.Walk.{beforeOf}
 use borrow.Author.Needs.{needs}
 use Rattle.table.proofs.trace.edge_before.Statement.{statement}

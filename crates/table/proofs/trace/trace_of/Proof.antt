@@ -1,6 +1,6 @@
 -- From i on the arrays hold the moves behind the vertex where the walk stands.
-use mathlib.Core.Path.{_≡_, refl, _∙_}
-use Prim.Native.Nat.{pred, suc, _+_, _-_, _*_, _%_, _≤_}
+use mathlib.Core.Path.{_≡_, refl}
+use Prim.Native.Nat.{pred, suc, _+_, _-_, _%_, _≤_}
 use native.Mathlib.Nat.{mod-eq-of-lt}
 use Rattle.table.specs.Rule.{position}
 use Rattle.table.proofs.Walking.{Held, held-none, held-more, held-all, vertex-fits}
