@@ -22,19 +22,23 @@ way {A} p q back forth = go (decLt q p)
     go (yes h) = back h (lt-ltb q p h)
     go (no h) = let l : p ≤ q = omega arith in forth l (le-ltb q p l)
 
+-- a test of two bounds, taken apart
 within : (a b c : ℕ) → leb a b && leb b c ≡ true → (a ≤ b) × (b ≤ c)
 within a b c t = let (x, y) = and-split (leb a b) (leb b c) t in (leb-true a b x, leb-true b c y)
 
+-- and put together
 between : (a b c : ℕ) → a ≤ b → b ≤ c → leb a b && leb b c ≡ true
 between a b c h k = and-join (leb a b) (leb b c) (le-leb a b h) (le-leb b c k)
 
--- counted back, the lower end is the higher one
+-- counted back, the lower end is the higher one,
 min-back : (n a b : ℕ) → a < n → b < n → min (n - suc a) (n - suc b) ≡ n - suc (max a b)
 min-back n a b ha hb = omega arith
 
+-- and the higher end the lower one
 max-back : (n a b : ℕ) → a < n → b < n → max (n - suc a) (n - suc b) ≡ n - suc (min a b)
 max-back n a b ha hb = omega arith
 
+-- a line lies between two others in one counting exactly if it does in the other
 turned : (n a b p i : ℕ) → a < n → b < n → p < n → i ≤ p
     → leb a (p - i) && leb (p - i) b ≡ leb (n - suc b) (n - suc p + i) && leb (n - suc p + i) (n - suc a)
 turned n a b p i ha hb hp hi =
@@ -48,6 +52,7 @@ module _ (n p q : ℕ) (hp : p < n) (hq : q < n) where
   unfolding gap
   axis-size = way p q (λ h e. rw e (omega arith)) (λ h e. rw e (omega arith))
 
+  -- the lower of the two lines of an edge
   pub axis-lower : (i : ℕ) → i < gap p q → lowerOf p q i ≡ lower (ltb q p) n (index (ltb q p) n p + i)
   unfolding gap
   axis-lower i h = way p q (λ l e. rw (e, lower-back p q i l) (omega arith)) (λ l e. rw (e, lower-forth p q i l))
@@ -60,7 +65,8 @@ module _ (n p q : ℕ) (hp : p < n) (hq : q < n) where
   unfolding gap covers
   axis-covers i a b h ha hb =
       way p q
-      (λ l e. rw (e, line-back p q i l, min-back n a b ha hb, max-back n a b ha hb) (turned n (min a b) (max a b) p i (omega arith) (omega arith) hp (omega arith)))
+      (λ l e. rw (e, line-back p q i l, min-back n a b ha hb, max-back n a b ha hb)
+      (turned n (min a b) (max a b) p i (omega arith) (omega arith) hp (omega arith)))
       (λ l e. rw (e, line-forth p q i l))
 
 -- a run goes ahead

@@ -19,14 +19,17 @@ use Rattle.table.specs.Side.{firstOf, secondOf, covers, leafOn, leavesOn
 
 -- ---- boxes on one axis
 
+-- a line between the two ends
 pub covers-in : (p q i : ℕ) → min p q ≤ i → i ≤ max p q → covers p q i ≡ true
 unfolding covers
 covers-in p q i h k = rw (le-leb (min p q) i h, le-leb i (max p q) k)
 
+-- below both
 pub covers-low : (p q i : ℕ) → i < min p q → covers p q i ≡ false
 unfolding covers
 covers-low p q i h = rw (lt-leb (min p q) i h)
 
+-- above both
 pub covers-high : (p q i : ℕ) → max p q < i → covers p q i ≡ false
 unfolding covers
 covers-high p q i h = go (leb (min p q) i)
@@ -52,10 +55,13 @@ pub record Spread (bit lo : ℕ) (t s : List ℕ) (i : ℕ) : Type 0 where
   pub below : (j : ℕ) → j < lo → getD s j 0 ≡ getD t j 0
   pub above : (j : ℕ) → i ≤ j → getD s j 0 ≡ getD t j 0
 
+-- before the first line nothing has changed
 pub spread-none : (bit lo : ℕ) (t : List ℕ) → length t ≡ 64 → Spread bit lo t t lo
 spread-none bit lo t h = record { size = h; new = λ j a b. absurd (omega arith); below = λ j a. refl; above = λ j a. refl }
 
-pub spread-more : (bit lo : ℕ) (t s : List ℕ) (i : ℕ) → Spread bit lo t s i → lo ≤ i → i < 64 → Spread bit lo t (set s i (bit + getD s i 0)) (i + 1)
+-- the bit is put into one line more
+pub spread-more : (bit lo : ℕ) (t s : List ℕ) (i : ℕ) → Spread bit lo t s i → lo ≤ i → i < 64
+    → Spread bit lo t (set s i (bit + getD s i 0)) (i + 1)
 spread-more bit lo t s i r h k =
     record {
       size = length-set s i (bit + getD s i 0) ∙ r .size;
@@ -71,6 +77,7 @@ spread-more bit lo t s i r h k =
         let f : i < length s = omega (arith, r .size) in
         rw e (getD-set-same s i (bit + getD s i 0) 0 f ∙ omega (arith, r .above i (omega arith)))
 
+-- behind the last line exactly the box has got the bit
 pub spread-done : (bit lo hi : ℕ) (t s : List ℕ) (i : ℕ) → Spread bit lo t s i → lo ≤ hi → i ≡ hi + 1
     → (j : ℕ) → getD s j 0 ≡ cond (covers lo hi j) bit 0 + getD t j 0
 spread-done bit lo hi t s i r h e j = go (decLt j lo) (decLe j hi)
@@ -86,25 +93,30 @@ spread-done bit lo hi t s i r h e j = go (decLt j lo) (decLe j hi)
 pub bit-fits : (k x : ℕ) → k < 32 → x < 2 ^ k → 2 ^ k + x < 2 ^ 32
 bit-fits k x h l = let e = subst (λ (m : ℕ). m ≤ 2 ^ 32) (two-pow-succ k) (pow-mono h) in omega arith
 
+-- the sets of no runs are empty
 pub leaves-none : (s : Side) (leaves i : ℕ) → leavesOn s 0 leaves i ≡ 0
 unfolding leavesOn pack
 leaves-none s leaves i = refl
 
+-- one run more: its bit where it is a leaf whose box has the line
 pub leaves-more : (s : Side) (n leaves i : ℕ)
     → leavesOn s (n + 1) leaves i ≡ cond (has leaves n && covers (firstOf s n) (secondOf s n) i) (2 ^ n) 0 + leavesOn s n leaves i
 unfolding leavesOn leafOn pack
 leaves-more s n leaves i = rw (add-one n)
 
+-- a set of n runs has n digits
 pub leaves-lt : (s : Side) (n leaves i : ℕ) → leavesOn s n leaves i < 2 ^ n
 unfolding leavesOn
 leaves-lt s n leaves i = pack-lt (leafOn s leaves i) n
 
 -- ---- sets by a test
 
+-- no runs make the empty set
 pub pack-none : (f : ℕ → Bool) → pack f 0 ≡ 0
 unfolding pack
 pack-none f = refl
 
+-- one run more: its bit where the test holds
 pub pack-more : (f : ℕ → Bool) (n : ℕ) → pack f (n + 1) ≡ cond (f n) (2 ^ n) 0 + pack f n
 unfolding pack
 pack-more f n = rw (add-one n)

@@ -41,6 +41,7 @@ start-spot w hor (suc s) t h = rw (ne-eqb (t * w + suc s) 0 (λ e. omega arith))
 start-spot w ver (suc s) t h = rw (ne-eqb (suc s * w + t) 0 (λ e. omega (arith, suc-mul s w)))
 
 module _ (g : Group) (I : Instance) (D : Drawn g I) where
+  -- the frame has one line more than steps
   many-is : (d : Dir) → many g d ≡ suc (I .size d)
   many-is hor = D .wide
   many-is ver = D .high
@@ -88,6 +89,7 @@ module _ (g : Group) (I : Instance) (D : Drawn g I) where
 
 -- ---- the walk
 
+-- a direction as the code keeps it
 abbrev pub isVer : Dir → Bool
 isVer hor = false
 isVer ver = true
@@ -96,6 +98,7 @@ isVer ver = true
 abbrev takenOf : Group → List ℕ → State → Taken
 takenOf g words q = record { ver = isVer (q .dir); run = isRun (q .flag); edge = edgeAt g words (q .dir) (suc (q .along)) (q .across) }
 
+-- the other direction is the other answer
 ver-other : (d : Dir) → not (isVer d) ≡ isVer (other d)
 ver-other hor = refl
 ver-other ver = refl
@@ -106,11 +109,13 @@ arrive-along : (g : Group) (words : List ℕ) (t : Taken) (d : Dir) (m n : ℕ) 
 arrive-along g words t hor m n h = arrive-right words (position (g .w) m n) (lineAt g hor m) (lineAt g ver n) t (g .cross) h
 arrive-along g words t ver m n h = arrive-up words (position (g .w) n m) (lineAt g hor n) (lineAt g ver m) t (g .cross) h
 
+-- two ways to ask if a word is there
 some-test : (f : ℕ) → not (eqb f 0) ≡ ltb 0 f
 some-test zero = refl
 some-test (suc f) = rw (ne-eqb (suc f) 0 (λ e. omega arith), lt-ltb 0 (suc f) (omega arith))
 
 module _ (g : Group) (I : Instance) (D : Drawn g I) (words : List ℕ) where
+  -- the table in the words
   abbrev T : Table
   T = tableOf (g .w) words
 
@@ -143,16 +148,20 @@ module _ (g : Group) (I : Instance) (D : Drawn g I) (words : List ℕ) where
 
   -- where the edge from (s, t) along d is part of a stretch with k: the stretch begins there, or goes on
   module _ (d : Dir) (s t n k : ℕ) (e : s + t ≡ suc n) (i : Inside I d s t) (o : owner I d s t ≡ cross k) where
+    -- the edge as a state of the trace
     abbrev q : State
     q = record { dir = d; flag = run; along = s; across = t }
 
+    -- its set names k
     own-is : Names (g .cross) (ownSet g d (suc s) t) (cross k)
     own-is = rw o at (D .owners d (suc s) t (i .along) (i .across))
 
+    -- the word along d that counts where k is left out
     along-is : unlessOwn (edgeAt g words d s t) (ownSet g d (suc s) t) ≡ unless (arrival I d s t) k (T d best s t)
     along-is =
         unless-named (g .cross) (edgeAt g words d s t) (arrival I d s t) (D .owners d s t (omega (arith, i .along)) (i .across)) (ownSet g d (suc s) t) k own-is
 
+    -- and the word across
     across-is : unlessOwn (edgeAt g words (other d) t s) (ownSet g d (suc s) t) ≡ unless (arrival I (other d) t s) k (T (other d) best t s)
     across-is =
         unless-named (g .cross) (edgeAt g words (other d) t s) (arrival I (other d) t s) (turned d i) (ownSet g d (suc s) t) k own-is
@@ -161,17 +170,27 @@ module _ (g : Group) (I : Instance) (D : Drawn g I) (words : List ℕ) where
         turned hor i = D .owners ver t s (i .across) (omega (arith, i .along))
         turned ver i = D .owners hor t s (i .across) (omega (arith, i .along))
 
+    -- the code and the trace agree on whether the stretch begins
     begins-is : beginsWith (edgeAt g words d (suc s) t) (edgeAt g words d s t) (edgeAt g words (other d) t s) ≡ begins I T k q
     unfolding beginsWith begins
-    begins-is = rw (along-is, across-is, from-far I T k d s t n e, D .lengths d s (i .along), some-test (max (unless (arrival I d s t) k (T d best s t)) (unless (arrival I (other d) t s) k (T (other d) best t s))))
+    begins-is =
+        rw (
+          along-is,
+          across-is,
+          from-far I T k d s t n e,
+          D .lengths d s (i .along),
+          some-test (max (unless (arrival I d s t) k (T d best s t)) (unless (arrival I (other d) t s) k (T (other d) best t s))),
+        )
 
+    -- and so on the edge before
     before-run : Ready I T n (nextRun I T (begins I T k q) k q)
         → beforeOf (takenOf g words q) (edgeAt g words d s t) (edgeAt g words (other d) t s) (g .cross) ≡ takenOf g words (nextRun I T (begins I T k q) k q)
     unfolding beforeOf nextRun comeFrom
     before-run r = rw begins-is (go (begins I T k q) r)
       where
         go : (b : Bool) → Ready I T n (nextRun I T b k q)
-            → cond b (chosen (leb (unlessOwn (edgeAt g words (other d) t s) (ownSet g d (suc s) t)) (unlessOwn (edgeAt g words d s t) (ownSet g d (suc s) t))) (isVer d) (edgeAt g words d s t) (edgeAt g words (other d) t s) (g .cross))
+            → cond b (chosen (leb (unlessOwn (edgeAt g words (other d) t s) (ownSet g d (suc s) t)) (unlessOwn (edgeAt g words d s t) (ownSet g d (suc s) t)))
+            (isVer d) (edgeAt g words d s t) (edgeAt g words (other d) t s) (g .cross))
             (record { ver = isVer d; run = true; edge = edgeAt g words d s t })
             ≡ takenOf g words (nextRun I T b k q)
         go true r = rw (along-is, across-is) (taken-come _ d s t n e (omega (arith, i .along)) (i .across) r)
@@ -181,6 +200,7 @@ module _ (g : Group) (I : Instance) (D : Drawn g I) (words : List ℕ) where
 abbrev tailAt : Dir → State → ℕ
 tailAt e q = coord e (q .dir) (q .along) (q .across)
 
+-- where an edge of the walk ends
 abbrev headAt : Dir → State → ℕ
 headAt e q = coord e (q .dir) (suc (q .along)) (q .across)
 
@@ -230,7 +250,8 @@ module _ (g : Group) (I : Instance) (D : Drawn g I) (words : List ℕ) (E : Exac
           ∙ ap (takenOf g words) (sym b)
       at run r =
           let o = run-cross (suc n) (after run) r refl in
-          let b : next I (tableOf (g .w) words) (after run) ≡ nextRun I (tableOf (g .w) words) (begins I (tableOf (g .w) words) (o .0) (after run)) (o .0) (after run) = rw (o .1) in
+          let b : next I (tableOf (g .w) words) (after run)
+          ≡ nextRun I (tableOf (g .w) words) (begins I (tableOf (g .w) words) (o .0) (after run)) (o .0) (after run) = rw (o .1) in
           arrive-along g words (takenOf g words (after run)) d s t refl
           ∙ before-run g I D words d s t n (o .0) (r .left) (r .inside) (o .1) (rw b at (next-ready I (tableOf (g .w) words) E n (after run) r))
           ∙ ap (takenOf g words) (sym b)
@@ -248,15 +269,18 @@ module _ (g : Group) (I : Instance) (D : Drawn g I) (words : List ℕ) (E : Exac
       turn ver hor = refl
       turn ver ver = refl
 
+  -- the edge before a given one ends where that one begins
   next-head : (n : ℕ) (q : State) → Ready I (tableOf (g .w) words) (suc n) q → (e : Dir) → headAt e (next I (tableOf (g .w) words) q) ≡ tailAt e q
   unfolding next nextBy nextRun comeBest comeFrom
   next-head n q r e = by (ownerOf I (tableOf (g .w) words) q) (q .flag) (next-ready I (tableOf (g .w) words) E n q r)
     where
-      on : (k : ℕ) (b : Bool) → Ready I (tableOf (g .w) words) n (nextRun I (tableOf (g .w) words) b k q) → headAt e (nextRun I (tableOf (g .w) words) b k q) ≡ tailAt e q
+      on : (k : ℕ) (b : Bool) → Ready I (tableOf (g .w) words) n (nextRun I (tableOf (g .w) words) b k q)
+          → headAt e (nextRun I (tableOf (g .w) words) b k q) ≡ tailAt e q
       on k true z = come-head _ (q .dir) (q .along) (q .across) n (r .left) z e
       on k false z = let p : suc (pred (q .along)) ≡ q .along = omega (arith, z .left, r .left) in rw p
 
-      by : (o : Owner) (f : Flag) → Ready I (tableOf (g .w) words) n (nextBy I (tableOf (g .w) words) o f q) → headAt e (nextBy I (tableOf (g .w) words) o f q) ≡ tailAt e q
+      by : (o : Owner) (f : Flag) → Ready I (tableOf (g .w) words) n (nextBy I (tableOf (g .w) words) o f q)
+          → headAt e (nextBy I (tableOf (g .w) words) o f q) ≡ tailAt e q
       by none f z = come-head _ (q .dir) (q .along) (q .across) n (r .left) z e
       by (same k) f z = come-head _ (q .dir) (q .along) (q .across) n (r .left) z e
       by (cross k) best z = come-head _ (q .dir) (q .along) (q .across) n (r .left) z e
@@ -271,18 +295,22 @@ module _ (g : Group) (I : Instance) (D : Drawn g I) (words : List ℕ) (E : Exac
       go hor = rw (ne-eqb (suc (q .along)) 0 (λ e. omega arith))
       go ver = rw (lt-ltb 0 (suc (q .along)) (omega arith))
 
+  -- a step back along the direction leads from the head to the tail
   tail-is : (q : State) → (headAt hor q - (1 - dirNo (q .dir)) ≡ tailAt hor q) × (headAt ver q - dirNo (q .dir) ≡ tailAt ver q)
   tail-is q = go (q .dir)
     where
-      go : (d : Dir) → (coord hor d (suc (q .along)) (q .across) - (1 - dirNo d) ≡ coord hor d (q .along) (q .across)) × (coord ver d (suc (q .along)) (q .across) - dirNo d ≡ coord ver d (q .along) (q .across))
+      go : (d : Dir) → (coord hor d (suc (q .along)) (q .across) - (1 - dirNo d) ≡ coord hor d (q .along) (q .across))
+          × (coord ver d (suc (q .along)) (q .across) - dirNo d ≡ coord ver d (q .along) (q .across))
       go hor = (omega arith, omega arith)
       go ver = (omega arith, omega arith)
 
   -- the move that the code stores is the instance's
-  move-is : (n : ℕ) (q : State) → Ready I (tableOf (g .w) words) n q → moveBy (dirNo (q .dir)) (shareNo (takenOf g words q) (g .cross)) ≡ here I (tableOf (g .w) words) q
+  move-is : (n : ℕ) (q : State) → Ready I (tableOf (g .w) words) n q
+      → moveBy (dirNo (q .dir)) (shareNo (takenOf g words q) (g .cross)) ≡ here I (tableOf (g .w) words) q
   move-is n q r =
       ap₂ (λ d s. record { dir = d; share = s }) (dir-is (q .dir))
-      (share-named (g .cross) (takenOf g words q) (ownerOf I (tableOf (g .w) words) q) (q .flag) (D .owners (q .dir) (suc (q .along)) (q .across) (r .inside .along) (r .inside .across)) refl)
+      (share-named (g .cross) (takenOf g words q) (ownerOf I (tableOf (g .w) words) q) (q .flag)
+      (D .owners (q .dir) (suc (q .along)) (q .across) (r .inside .along) (r .inside .across)) refl)
     where
       dir-is : (d : Dir) → dirBy (dirNo d) ≡ d
       dir-is hor = refl
@@ -299,11 +327,13 @@ module _ (g : Group) (I : Instance) (D : Drawn g I) (words : List ℕ) (E : Exac
       (walk-back n (next I (tableOf (g .w) words) q) (takenOf g words q) _ _ (next-ready I (tableOf (g .w) words) E n q r)
       (tail-is q .0 ∙ sym (next-head n q r hor)) (tail-is q .1 ∙ sym (next-head n q r ver)) (rw (tail-is q .0, tail-is q .1) (before-is n q r))))
 
+  -- the last edge ends at the last vertex
   last-head : (n : ℕ) → I .size hor + I .size ver ≡ suc n → Ready I (tableOf (g .w) words) n (comeBest I (tableOf (g .w) words) hor (I .size hor) (I .size ver))
       → (e : Dir) → headAt e (comeBest I (tableOf (g .w) words) hor (I .size hor) (I .size ver)) ≡ coord e hor (I .size hor) (I .size ver)
   unfolding comeBest
   last-head n h r e = come-head _ hor (I .size hor) (I .size ver) n h r e
 
+  -- nothing is left to walk at the first point
   none-left : (q : State) (t : Taken) (a b : ℕ) → walk g words 0 t a b ≡ back I (tableOf (g .w) words) 0 q
   unfolding walk back
   none-left q t a b = refl

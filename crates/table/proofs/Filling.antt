@@ -43,30 +43,37 @@ low-edge words u (suc (suc d)) n h l = absurd (omega arith)
 
 -- ---- positions
 
+-- the first vertex of a row
 pub position-first : (w b : ℕ) → position w 0 b ≡ b * w
 unfolding position
 position-first w b = omega arith
 
+-- the next vertex
 pub position-next : (w a b : ℕ) → position w (suc a) b ≡ suc (position w a b)
 unfolding position
 position-next w a b = omega arith
 
+-- the vertex above
 pub position-up : (w a b : ℕ) → position w a (suc b) ≡ position w a b + w
 unfolding position
 position-up w a b = omega (arith, suc-mul b w)
 
+-- the vertex a columns on
 pub position-plus : (w a b : ℕ) → position w a b ≡ position w 0 b + a
 unfolding position
 position-plus w a b = omega arith
 
+-- behind the last vertex of a row the next row begins
 pub position-end : (w b : ℕ) → position w w b ≡ position w 0 (suc b)
 unfolding position
 position-end w b = omega (arith, suc-mul b w)
 
+-- a vertex of the frame has a position below w * h
 pub position-lt : (w h a b : ℕ) → a < w → b < h → position w a b < h * w
 unfolding position
 position-lt w h a b ha hb = omega (arith, mul-le-mul-right {m = suc b} {n = h} w hb, suc-mul b w)
 
+-- and there are at most 4,096 of these
 pub area : (w h : ℕ) → w ≤ 64 → h ≤ 64 → h * w ≤ 4096
 area w h hw hh = mul-le-mul hh hw
 
@@ -91,18 +98,22 @@ abbrev pub strideOf : ℕ → Dir → ℕ
 strideOf w hor = 1
 strideOf w ver = w
 
+-- along d, a vertex stands one stride behind the one before it
 pub spot-before : (w : ℕ) (d : Dir) (s t : ℕ) → spot w d (suc s) t ≡ spot w d s t + strideOf w d
 spot-before w hor s t = position-next w s t ∙ omega arith
 spot-before w ver s t = position-up w t s
 
+-- a vertex is the same one read along either direction
 spot-turn : (w : ℕ) (d : Dir) (s t : ℕ) → spot w (other d) t s ≡ spot w d s t
 spot-turn w hor s t = refl
 spot-turn w ver s t = refl
 
+-- a stride leads on
 stride-pos : (w : ℕ) (d : Dir) → 1 ≤ w → 1 ≤ strideOf w d
 stride-pos w hor h = omega arith
 stride-pos w ver h = h
 
+-- a start counts at most 1
 start-le : (u : ℕ) → startOf u ≤ 1
 start-le u = go (eqb u 0)
   where
@@ -110,12 +121,14 @@ start-le u = go (eqb u 0)
     go true = omega arith
     go false = omega arith
 
+-- there are two directions
 dir-lt : (d : Dir) → dirNo d < 2
 dir-lt hor = omega arith
 dir-lt ver = omega arith
 
 -- ---- what the code computes at a vertex is its cell
 
+-- the edge into a vertex along d, from the words before it
 pub into-cell : (g : Group) (words : List ℕ) (d : Dir) (s t p : ℕ) → p ≡ spot (g .w) d s t
     → intoOf words s (strideOf (g .w) d) p (dirNo d) (lineAt g d s) (lineAt g d (pred s)) (lineAt g (other d) t) (g .cross) ≡ cellOf g words d s t
 unfolding entered
@@ -135,20 +148,24 @@ into-cell g words d (suc s) t p e =
 -- ---- what the rule reads: two lists of words that agree before position m
 
 module _ (g : Group) (words words′ : List ℕ) (m : ℕ) (same : (k : ℕ) → k < m * 4 → getD words′ k 0 ≡ getD words k 0) where
+  -- an edge is read from the words at its head
   edge-same : (d : Dir) (s t : ℕ) → spot (g .w) d s t < m → edgeAt g words′ d s t ≡ edgeAt g words d s t
   edge-same d s t h =
       let l = dir-lt d in
       rw (same (spot (g .w) d s t * 4 + dirNo d * 2) (omega arith), same (spot (g .w) d s t * 4 + dirNo d * 2 + 1) (omega arith))
 
+  -- and so are the two words alone
   pair-same : (d : Dir) (s t : ℕ) → spot (g .w) d s t < m → pairAt (g .w) words′ d s t ≡ pairAt (g .w) words d s t
   pair-same d s t h = ap (λ e. pair (e .best) (e .run)) (edge-same d s t h)
 
+  -- the rule of an edge reads the words at its tail
   entered-same : (d : Dir) (s t : ℕ) → spot (g .w) d s t < m → entered g words′ d s t ≡ entered g words d s t
   unfolding entered
   entered-same d s t h =
       ap₂ (λ x y. ruleOf x y (startOf (spot (g .w) d s t)) (ownSet g d (suc s) t) (lineAt g d (suc s) .len) (g .cross))
       (edge-same d s t h) (edge-same (other d) t s (rw (spot-turn (g .w) d s t) h))
 
+  -- which are earlier than those of its head
   cell-same : 1 ≤ g .w → (d : Dir) (s t : ℕ) → spot (g .w) d s t ≤ m → cellOf g words′ d s t ≡ cellOf g words d s t
   cell-same w d zero t h = refl
   cell-same w d (suc s) t h = entered-same d s t (omega (arith, spot-before (g .w) d s t, stride-pos (g .w) d w))
@@ -156,16 +173,20 @@ module _ (g : Group) (words words′ : List ℕ) (m : ℕ) (same : (k : ℕ) →
 -- ---- four stores
 
 module _ (words : List ℕ) (n : ℕ) (x y : Pair) where
+  -- the other words are as they were
   four-other : (k : ℕ) → (k ≡ n → ⊥) → (k ≡ n + 1 → ⊥) → (k ≡ n + 2 → ⊥) → (k ≡ n + 3 → ⊥) → getD (four words n x y) k 0 ≡ getD words k 0
   unfolding four
   four-other k h0 h1 h2 h3 = simp getD-set-other
 
+  -- the length stays
   pub length-four : length (four words n x y) ≡ length words
   unfolding four
   length-four = simp length-set
 
+  -- the four words are the two pairs
   four-at : n + 3 < length words
-      → (getD (four words n x y) n 0 ≡ x .best) × (getD (four words n x y) (n + 1) 0 ≡ x .run) × (getD (four words n x y) (n + 2) 0 ≡ y .best) × (getD (four words n x y) (n + 3) 0 ≡ y .run)
+      → (getD (four words n x y) n 0 ≡ x .best) × (getD (four words n x y) (n + 1) 0 ≡ x .run)
+      × (getD (four words n x y) (n + 2) 0 ≡ y .best) × (getD (four words n x y) (n + 3) 0 ≡ y .run)
   unfolding four
   four-at h =
       let l1 : n + 1 < length (set words n (x .best)) = simp length-set (omega arith) in
@@ -191,9 +212,11 @@ abbrev next : Group → List ℕ → ℕ → ℕ → List ℕ
 next g words a b = four words (position (g .w) a b * 4) (cellOf g words hor a b) (cellOf g words ver b a)
 
 module _ (g : Group) (words : List ℕ) (a b : ℕ) (ha : a < g .w) (fits : position (g .w) a b * 4 + 3 < length words) where
+  -- the words before the vertex stay
   next-before : (k : ℕ) → k < position (g .w) a b * 4 → getD (next g words a b) k 0 ≡ getD words k 0
   next-before k h = four-other words (position (g .w) a b * 4) _ _ k (λ e. omega arith) (λ e. omega arith) (λ e. omega arith) (λ e. omega arith)
 
+  -- and those behind it
   next-after : (k : ℕ) → position (g .w) a b * 4 + 4 ≤ k → getD (next g words a b) k 0 ≡ getD words k 0
   next-after k h = four-other words (position (g .w) a b * 4) _ _ k (λ e. omega arith) (λ e. omega arith) (λ e. omega arith) (λ e. omega arith)
 
@@ -210,6 +233,7 @@ module _ (g : Group) (words : List ℕ) (a b : ℕ) (ha : a < g .w) (fits : posi
       let n : position (g .w) a b * 4 + 2 + 1 ≡ position (g .w) a b * 4 + 3 = omega arith in
       rw (q .0, q .1) (ap₂ pair (f .2) (rw n (f .3)))
 
+  -- the local rule holds one vertex further
   ruled-next : 1 ≤ g .w → Done g words (position (g .w) a b) → (d : Dir) (s t : ℕ) → s < many g d → t < many g (other d)
       → spot (g .w) d s t < suc (position (g .w) a b) → pairAt (g .w) (next g words a b) d s t ≡ cellOf g (next g words a b) d s t
   ruled-next w old d s t hs ht h = go (decLt (spot (g .w) d s t) (position (g .w) a b))
@@ -239,6 +263,7 @@ module _ (g : Group) (words : List ℕ) (a b : ℕ) (ha : a < g .w) (fits : posi
       tail hor hs ht h = old .low s t (omega arith) h
       tail ver hs ht h = let e : t + s ≡ s + t = omega arith in rw e at (old .low t s ht h)
 
+  -- the same on the first line, where no edge ends
   cell-low : Fit g words → Done g words (position (g .w) a b) → (d : Dir) (s t : ℕ) → s < many g d → t < many g (other d)
       → spot (g .w) d s t ≡ position (g .w) a b
       → (cellOf g words d s t .best ≤ 1 + (s + t) * 2000000) × (cellOf g words d s t .run ≤ 1 + (s + t) * 2000000)
@@ -246,6 +271,7 @@ module _ (g : Group) (words : List ℕ) (a b : ℕ) (ha : a < g .w) (fits : posi
   cell-low fit old d (suc s) t hs ht e =
       entered-low fit old d s t hs ht (omega (arith, spot-before (g .w) d s t, stride-pos (g .w) d (fit .some-columns)))
 
+  -- the bound holds one vertex further
   low-next : b < g .h → Fit g words → Done g words (position (g .w) a b) → (i j : ℕ) → i < g .w → position (g .w) i j < suc (position (g .w) a b)
       → Low (next g words a b) (position (g .w) i j) (i + j)
   low-next hb fit old i j hi h = go (decLt (position (g .w) i j) (position (g .w) a b))
@@ -278,13 +304,16 @@ module _ (g : Group) (words : List ℕ) (a b : ℕ) (ha : a < g .w) (fits : posi
 
 -- ---- a turn of the loop
 
+-- read along d, a vertex of the frame has a position below w * h
 spot-lt : (g : Group) (d : Dir) (s t : ℕ) → s < many g d → t < many g (other d) → spot (g .w) d s t < g .h * g .w
 spot-lt g hor s t hs ht = position-lt (g .w) (g .h) s t hs ht
 spot-lt g ver s t hs ht = position-lt (g .w) (g .h) t s ht hs
 
+-- a bound of fewer edges is one of more
 low-more : (words : List ℕ) (p n m : ℕ) → n ≤ m → Low words p n → Low words p m
 low-more words p n m h l k b = omega (arith, l k b, mul-le-mul-right 2000000 h)
 
+-- a frame has at most 64 lines
 many-le : (g : Group) (words : List ℕ) (d : Dir) → Fit g words → many g d ≤ 64
 many-le g words hor f = f .columns
 many-le g words ver f = f .rows
@@ -304,7 +333,8 @@ module _ (g : Group) (words : List ℕ) (n : ℕ) (fit : Fit g words) (old : Don
       }
     where
       light : Low words (n - strideOf (g .w) d) 126
-          → Light (pairOf words (n - strideOf (g .w) d) (dirNo d)) (pairOf words (n - strideOf (g .w) d) (1 - dirNo d)) (startOf (n - strideOf (g .w) d)) (lineAt g d s .len)
+          → Light (pairOf words (n - strideOf (g .w) d) (dirNo d)) (pairOf words (n - strideOf (g .w) d) (1 - dirNo d))
+          (startOf (n - strideOf (g .w) d)) (lineAt g d s .len)
       light l =
           let x = low-edge words (n - strideOf (g .w) d) (dirNo d) 126 (dir-lt d) l in
           let y = low-edge words (n - strideOf (g .w) d) (1 - dirNo d) 126 (omega arith) l in
@@ -329,12 +359,15 @@ module _ (g : Group) (words : List ℕ) (n : ℕ) (fit : Fit g words) (old : Don
   module _ (first made : List ℕ) (a b : ℕ) (ha : a < g .w) (hb : b < g .h) (e : n ≡ position (g .w) a b)
       (is : made ≡ four words (n * 4) (intoOf words a 1 n 0 (lineAt g hor a) (lineAt g hor (pred a)) (lineAt g ver b) (g .cross))
       (intoOf words b (g .w) n 1 (lineAt g ver b) (lineAt g ver (pred b)) (lineAt g hor a) (g .cross))) where
+    -- what the code stores are the cells
     made-is : made ≡ next g words a b
     made-is = is ∙ rw (into-cell g words hor a b n e, into-cell g words ver b a n e, e)
 
+    -- the four words are there
     fits : position (g .w) a b * 4 + 3 < length words
     fits = omega (arith, position-lt (g .w) (g .h) a b ha hb, fit .room)
 
+    -- one vertex more is done
     pub done-next : Done g made (n + 1)
     done-next =
         let o = rw e at old in
@@ -344,6 +377,7 @@ module _ (g : Group) (words : List ℕ) (n : ℕ) (fit : Fit g words) (old : Don
           low = low-next g words a b ha fits hb fit o;
         })
 
+    -- and the later words are untouched
     pub beyond-next : Beyond first words (n * 4) → Beyond first made ((n + 1) * 4)
     beyond-next d =
         rw made-is (record {
@@ -353,35 +387,43 @@ module _ (g : Group) (words : List ℕ) (n : ℕ) (fit : Fit g words) (old : Don
 
 -- ---- whole tables
 
+-- a frame suits words by their number alone
 pub fit-same : (g : Group) (words words′ : List ℕ) → length words′ ≡ length words → Fit g words → Fit g words′
 fit-same g words words′ e f =
     record { some-columns = f .some-columns; columns = f .columns; some-rows = f .some-rows; rows = f .rows; room = omega (arith, f .room); short = f .short }
 
+-- nothing is done at the start
 pub done-none : (g : Group) (words : List ℕ) → Done g words 0
 done-none g words = record { ruled = λ d s t hs ht h. absurd (omega arith); low = λ a b ha h. absurd (omega arith) }
 
+-- with all done, the table has the local rule
 pub done-all : (g : Group) (words : List ℕ) → Done g words (g .h * g .w) → Ruled g words
 done-all g words d e s t hs ht = d .ruled e s t hs ht (spot-lt g e s t hs ht)
 
+-- nothing is touched at the start
 pub beyond-none : (words : List ℕ) (n : ℕ) → Beyond words words n
 beyond-none words n = record { size = refl; same = λ k h. refl }
 
+-- what two turns leave untouched, both together do
 pub beyond-more : (first words made : List ℕ) (n m : ℕ) → n ≤ m → Beyond first words n → Beyond words made m → Beyond first made m
 beyond-more first words made n m h d e = record { size = e .size ∙ d .size; same = λ k l. e .same k l ∙ d .same k (omega arith) }
 
 -- ---- the last vertex
 
+-- the last position is that of the last vertex
 pub position-last : (w h : ℕ) → 1 ≤ w → 1 ≤ h → h * w - 1 ≡ position w (pred w) (pred h)
 unfolding position
 position-last w zero hw hh = absurd (omega arith)
 position-last zero (suc h) hw hh = absurd (omega arith)
 position-last (suc w) (suc h) hw hh = omega (arith, suc-mul h (suc w))
 
+-- there is a last vertex, with four words
 pub last-fits : (g : Group) (words : List ℕ) → Fit g words → (1 ≤ g .h * g .w) × ((g .h * g .w - 1) * 4 + 3 < length words)
 last-fits g words f =
     let e = position-lt (g .w) (g .h) (pred (g .w)) (pred (g .h)) (omega (arith, f .some-columns)) (omega (arith, f .some-rows)) in
     (omega arith, omega (arith, f .room))
 
+-- the figure is the largest word there, less the start's 1
 pub figure-is : (g : Group) (words : List ℕ) (n : ℕ) → Fit g words
     → n ≡ max (max (getD words ((g .h * g .w - 1) * 4) 0) (getD words ((g .h * g .w - 1) * 4 + 2) 0)) (startOf (g .h * g .w - 1)) → pred n ≡ figureOf g words
 unfolding figureOf

@@ -16,37 +16,43 @@ use Rattle.table.specs.Frame.{lineOf, lowerOf, blank, frameLine, FrameLi
 
 -- ---- counting
 
--- back, where the second position is lower, and forth
+-- back, where the second position is lower
 pub line-back : (p q i : ℕ) → q < p → lineOf p q i ≡ p - i
 unfolding lineOf
 line-back p q i h = rw (lt-ltb q p h)
 
+-- forth, where it is not
 pub line-forth : (p q i : ℕ) → p ≤ q → lineOf p q i ≡ p + i
 unfolding lineOf
 line-forth p q i h = rw (le-ltb q p h)
 
+-- the lower line of an edge, counted back
 pub lower-back : (p q i : ℕ) → q < p → lowerOf p q i ≡ p - suc i
 unfolding lowerOf
 lower-back p q i h = rw (lt-ltb q p h)
 
+-- and forth
 pub lower-forth : (p q i : ℕ) → p ≤ q → lowerOf p q i ≡ p + i
 unfolding lowerOf
 lower-forth p q i h = rw (le-ltb q p h)
 
 -- ---- the lines of a frame
 
+-- two lines of an axis are less than its number of lines apart
 pub gap-lt : (n p q : ℕ) → p < n → q < n → gap p q < n
 unfolding gap
 gap-lt n p q h k = omega arith
 
--- what is computed at the first line, and at line i, is the frame's line
+-- what is computed at the first line is the frame's line
 pub first-line : (on len : ℕ → ℕ) (p q i here : ℕ) → i ≡ 0 → here ≡ lineOf p q i
     → record { on = on here; into = 0; len = 0 } ≡ frameLine on len p q i
 unfolding frameLine
 first-line on len p q zero here e h = rw h
 first-line on len p q (suc i) here e h = absurd (omega arith)
 
-pub next-line : (on len : ℕ → ℕ) (p q i here before low : ℕ) → (i ≡ 0 → ⊥) → here ≡ lineOf p q i → before ≡ lineOf p q (i - 1) → low ≡ lowerOf p q (i - 1)
+-- and what is computed at a later line
+pub next-line : (on len : ℕ → ℕ) (p q i here before low : ℕ) → (i ≡ 0 → ⊥)
+    → here ≡ lineOf p q i → before ≡ lineOf p q (i - 1) → low ≡ lowerOf p q (i - 1)
     → record { on = on here; into = bitAnd (on here) (on before); len = len low } ≡ frameLine on len p q i
 unfolding frameLine
 next-line on len p q zero here before low n h k l = absurd (n refl)
@@ -65,6 +71,7 @@ set-next t i v d f h old e j l = go (decLt j i)
 
 -- ---- lines within the axis
 
+-- a line of the frame is a line of the axis
 pub line-lt : (n p q i : ℕ) → p < n → q < n → i ≤ gap p q → lineOf p q i < n
 unfolding gap
 line-lt n p q i h k l = go (decLt q p)
@@ -73,6 +80,7 @@ line-lt n p q i h k l = go (decLt q p)
     go (yes e) = omega (arith, line-back p q i e)
     go (no e) = omega (arith, line-forth p q i (omega arith))
 
+-- and so are both lines of an edge
 pub lower-lt : (n p q i : ℕ) → p < n → q < n → i < gap p q → suc (lowerOf p q i) < n
 unfolding gap
 lower-lt n p q i h k l = go (decLt q p)

@@ -29,15 +29,18 @@ pub data Names (c : ℕ) : ℕ → Owner → Type 0 where
   alike : {k : ℕ} → k < 32 → has c k ≡ false → Names c (2 ^ k) (same k)
   unlike : {k : ℕ} → k < 32 → has c k ≡ true → Names c (2 ^ k) (cross k)
 
+-- a flag as the code keeps it
 abbrev pub isRun : Flag → Bool
 isRun best = false
 isRun run = true
 
 -- ---- sets of one member
 
+-- its member is in it
 power-has : (k : ℕ) → has (2 ^ k) k ≡ true
 power-has k = has-power k k ∙ eq-eqb k k refl
 
+-- so it is not empty
 power-some : (k : ℕ) → 2 ^ k ≡ 0 → ⊥
 power-some k e = omega (arith, pow-pos k)
 
@@ -53,7 +56,8 @@ power-same j k = go (ℕ-discrete j k)
 
 -- an AND with a set of one member tells if it is in the other set
 and-out : (k c : ℕ) → has c k ≡ false → bitAnd (2 ^ k) c ≡ 0
-and-out k c h = same-set (suc k) (bitAnd (2 ^ k) c) 0 (lt-of-le-of-lt (and-le-l (2 ^ k) c) (pow-lt (omega arith))) (pow-pos (suc k)) (λ j l. out j ∙ sym (none-has j))
+and-out k c h =
+    same-set (suc k) (bitAnd (2 ^ k) c) 0 (lt-of-le-of-lt (and-le-l (2 ^ k) c) (pow-lt (omega arith))) (pow-pos (suc k)) (λ j l. out j ∙ sym (none-has j))
   where
     go : (j : ℕ) (b : Bool) → eqb j k ≡ b → (b && has c j) ≡ false
     go j true e = ap (has c) (eqb-true j k e) ∙ h
@@ -62,6 +66,7 @@ and-out k c h = same-set (suc k) (bitAnd (2 ^ k) c) 0 (lt-of-le-of-lt (and-le-l 
     out : (j : ℕ) → has (bitAnd (2 ^ k) c) j ≡ false
     out j = has-and (2 ^ k) c j ∙ ap (λ b. b && has c j) (has-power k j) ∙ go j (eqb j k) refl
 
+-- it is
 and-in : (k c : ℕ) → has c k ≡ true → bitAnd (2 ^ k) c ≡ 0 → ⊥
 and-in k c h e = true≢false (sym (has-and (2 ^ k) c k ∙ ap₂ _&&_ (power-has k) h) ∙ ap (λ m. has m k) e ∙ none-has k)
 
@@ -72,6 +77,7 @@ power-lowest k h =
     let s = select-first (has (2 ^ k)) 32 k h (power-has k) (λ j l. has-power k j ∙ ne-eqb j k (λ e. omega arith)) in
     ap (λ l. getD l 0 32) (s .1)
 
+-- the empty set answers 32
 zero-lowest : getD (members 0) 0 32 ≡ 32
 unfolding members
 zero-lowest = refl
@@ -79,7 +85,8 @@ zero-lowest = refl
 -- ---- words for owners
 
 -- comparing two sets compares the owners, where the second one is a cross leaf
-same-own : (c a o : ℕ) (w : Owner) (k : ℕ) → Names c a w → Names c o (cross k) → (n : ℕ) → (unless w k n ≡ zeroIf (eqb a o) n) × (only w k n ≡ zeroIf (not (eqb a o)) n)
+same-own : (c a o : ℕ) (w : Owner) (k : ℕ) → Names c a w → Names c o (cross k) → (n : ℕ)
+    → (unless w k n ≡ zeroIf (eqb a o) n) × (only w k n ≡ zeroIf (not (eqb a o)) n)
 unfolding unless only
 same-own c a o w k nobody (unlike {k = j} h e) n = let z = ne-eqb 0 (2 ^ j) (λ q. power-some j (sym q)) in (rw z, rw z)
 same-own c a o w k (alike {k = i} h e) (unlike {k = j} h′ e′) n =
@@ -87,21 +94,25 @@ same-own c a o w k (alike {k = i} h e) (unlike {k = j} h′ e′) n =
     (rw z, rw z)
 same-own c a o w k (unlike {k = i} h e) (unlike {k = j} h′ e′) n = (rw (power-same i j), rw (power-same i j))
 
+-- two ways to leave a word out
 zero-cond : (b : Bool) (n : ℕ) → (cond b 0 n ≡ zeroIf b n) × (cond b n 0 ≡ zeroIf (not b) n)
 zero-cond true n = (refl, refl)
 zero-cond false n = (refl, refl)
 
 module _ (c : ℕ) (e : Edge) (w : Owner) (e-is : Names c (e .own) w) (o k : ℕ) (o-is : Names c o (cross k)) where
+  -- the word that counts where k is left out
   pub unless-named : unlessOwn e o ≡ unless w k (e .best)
   unfolding unlessOwn
   unless-named = zero-cond (eqb (e .own) o) (e .best) .0 ∙ sym (same-own c (e .own) o w k e-is o-is (e .best) .0)
 
+  -- and the word that counts for k alone
   pub if-named : ifOwn e o ≡ only w k (e .run)
   unfolding ifOwn
   if-named = zero-cond (eqb (e .own) o) (e .run) .1 ∙ sym (same-own c (e .own) o w k e-is o-is (e .run) .1)
 
 -- the rule of an edge is that of its owner
 module _ (c : ℕ) (along across : Edge) (x y : Owner) (along-is : Names c (along .own) x) (across-is : Names c (across .own) y) (start len : ℕ) where
+  -- which words it reads is settled by the names of the edges before it
   pub named-rule : (o : ℕ) (w : Owner) → Names c o w → ruleOf along across start o len c
       ≡ pair (bestOf w (allOf along across start) (ruleOf along across start o len c .run) len)
       (runOf w (λ k. max (max (unless x k (along .best)) (unless y k (across .best))) start) (λ k. only x k (along .run)) len)
@@ -109,8 +120,13 @@ module _ (c : ℕ) (along across : Edge) (x y : Owner) (along-is : Names c (alon
   named-rule o w (alike {k} h e) = rule-same along across start (2 ^ k) len c (power-some k) (and-out k c e)
   named-rule o w (unlike {k} h e) =
       let r = rule-cross along across start (2 ^ k) len c (power-some k) (and-in k c e) in
-      let s : stretchOf along across start (2 ^ k) len ≡ max (plus (max (max (unless x k (along .best)) (unless y k (across .best))) start) len) (plus (only x k (along .run)) len)
-      = rw (unless-named c along x along-is (2 ^ k) k (unlike h e), unless-named c across y across-is (2 ^ k) k (unlike h e), if-named c along x along-is (2 ^ k) k (unlike h e)) in
+      let s : stretchOf along across start (2 ^ k) len
+      ≡ max (plus (max (max (unless x k (along .best)) (unless y k (across .best))) start) len) (plus (only x k (along .run)) len)
+      = rw (
+        unless-named c along x along-is (2 ^ k) k (unlike h e),
+        unless-named c across y across-is (2 ^ k) k (unlike h e),
+        if-named c along x along-is (2 ^ k) k (unlike h e),
+      ) in
       r ∙ ap₂ pair (ap (λ p. max (allOf along across start) (p .run)) (sym r)) s
 
 -- a cross owner is told by one AND

@@ -14,6 +14,7 @@ use Rattle.table.specs.Rule.{pair, edgeBy, unlessOwn, ifOwn, allOf, newO
 
 -- ---- cases
 
+-- a length is added to a word that is there
 pub plus-some : (x l : ℕ) → (x ≡ 0 → ⊥) → plus x l ≡ x + l
 plus-some zero l h = absurd (h refl)
 plus-some (suc x) l h = refl
@@ -29,18 +30,22 @@ plus-max (suc a) (suc b) l = rw (plus-some (max (suc a) (suc b)) l (λ e. omega 
 pub max-three : (a b c : ℕ) → max a (max b c) ≡ max (max a b) c
 max-three a b c = omega arith
 
+-- an edge of the owner is left out
 pub unless-yes : (e : Edge) (o : ℕ) → e .own ≡ o → unlessOwn e o ≡ 0
 unfolding unlessOwn
 unless-yes e o h = rw (eq-eqb (e .own) o h)
 
+-- another is not
 pub unless-no : (e : Edge) (o : ℕ) → (e .own ≡ o → ⊥) → unlessOwn e o ≡ e .best
 unfolding unlessOwn
 unless-no e o h = rw (ne-eqb (e .own) o h)
 
+-- an edge of the owner goes on with the stretch
 pub if-yes : (e : Edge) (o : ℕ) → e .own ≡ o → ifOwn e o ≡ e .run
 unfolding ifOwn
 if-yes e o h = rw (eq-eqb (e .own) o h)
 
+-- another does not
 pub if-no : (e : Edge) (o : ℕ) → (e .own ≡ o → ⊥) → ifOwn e o ≡ 0
 unfolding ifOwn
 if-no e o h = rw (ne-eqb (e .own) o h)
@@ -63,12 +68,14 @@ module _ (along across : Edge) (start o len cross : ℕ) where
   unfolding ruleOf
   rule-cross h k = rw (ne-eqb o 0 h, ne-eqb (bitAnd o cross) 0 k)
 
--- an edge that ends on the first line, and on another one
+-- an edge that ends on a line
 module _ (s : ℕ) (x y : Pair) (start : ℕ) (along before across : Line) (cross : ℕ) where
+  -- the first line has no words
   pub enter-none : s ≡ 0 → enterOf s x y start along before across cross ≡ pair 0 0
   unfolding enterOf
   enter-none h = rw (eq-eqb s 0 h)
 
+  -- another has those of the rule
   pub enter-some : (s ≡ 0 → ⊥) → enterOf s x y start along before across cross
       ≡ ruleOf (edgeBy x before across) (edgeBy y across before) start (bitAnd (across .on) (along .into)) (along .len) cross
   unfolding enterOf
@@ -76,10 +83,12 @@ module _ (s : ℕ) (x y : Pair) (start : ℕ) (along before across : Line) (cros
 
 -- ---- bounds
 
+-- a word with a length
 plus-le : (x l m : ℕ) → x ≤ m → plus x l ≤ m + l
 plus-le zero l m h = omega arith
 plus-le (suc x) l m h = omega arith
 
+-- a word that may be left out
 unless-le : (e : Edge) (o m : ℕ) → e .best ≤ m → unlessOwn e o ≤ m
 unfolding unlessOwn
 unless-le e o m h = go (eqb (e .own) o)
@@ -88,6 +97,7 @@ unless-le e o m h = go (eqb (e .own) o)
     go true = omega arith
     go false = h
 
+-- a word that may go on
 if-le : (e : Edge) (o m : ℕ) → e .run ≤ m → ifOwn e o ≤ m
 unfolding ifOwn
 if-le e o m h = go (eqb (e .own) o)

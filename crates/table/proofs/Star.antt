@@ -39,14 +39,16 @@ use Rattle.table.proofs.Named.{Names, nobody, alike, unlike}
 use Rattle.table.proofs.Axis.{axis-size, axis-lower, axis-covers, axis-ahead}
 use Rattle.table.proofs.Drawn.{Drawn}
 
+-- the side of a direction
 abbrev pub sideAt : Side → Side → Dir → Side
 sideAt xs ys hor = xs
 sideAt xs ys ver = ys
 
--- the indexes of the lines of run k's points
+-- the indexes of the lines of run k's first point
 abbrev pub firsts : Side → Side → ℕ → Dir → ℕ
 firsts xs ys k d = firstOf (sideAt xs ys d) k
 
+-- and of its second point
 abbrev pub seconds : Side → Side → ℕ → Dir → ℕ
 seconds xs ys k d = secondOf (sideAt xs ys d) k
 
@@ -58,11 +60,13 @@ pub record Surveyed (grid : Grid) (runs : List Run) (xs ys : Side) (c leaves : �
   pub lengths : (d : Dir) (i : ℕ) → suc i < length (lines grid d) → getD (sideAt xs ys d .len) i 0 ≡ getD (lines grid d) (suc i) 0 - getD (lines grid d) i 0
   pub is-leaf : (k : ℕ) → k < length runs → has leaves k ≡ meets grid runs c k
 
--- the view and the boxes that the sides give
+-- what the sides give
 module _ (grid : Grid) (xs ys : Side) (c : ℕ) where
+  -- the centre's view
   abbrev pub viewOf : View
   viewOf = facing grid (firsts xs ys c) (seconds xs ys c)
 
+  -- the box of run k in it
   abbrev pub boxOf : ℕ → Box
   boxOf k = boxAt viewOf (firsts xs ys k) (seconds xs ys k)
 
@@ -72,6 +76,7 @@ unfolding frameLine
 frame-on on len p q zero = refl
 frame-on on len p q (suc i) = refl
 
+-- no edge ends on the first line
 first-into : (on len : ℕ → ℕ) (p q : ℕ) → frameLine on len p q 0 .into ≡ 0
 unfolding frameLine
 first-into on len p q = refl
@@ -84,6 +89,7 @@ some-or-none n o h = go (eq-or-lt-of-le (trailing-le n o))
     go (inl e) = inl (same-set n o 0 h (pow-pos n) (λ j l. trailing-below n o j (omega arith) ∙ sym (none-has j)))
     go (inr l) = inr (trailingZeros n o, l, trailing-at n o l)
 
+-- four answers out of one
 all-true : (m a b d : Bool) → (m && a) && ((m && b) && (m && d)) ≡ true → (m ≡ true) × (a ≡ true) × (b ≡ true) × (d ≡ true)
 all-true true a b d e =
     let (x, y) = and-split a (b && d) e in
@@ -94,23 +100,29 @@ all-true false a b d e = absurd (true≢false (sym e))
 module _ (grid : Grid) (runs : List Run) (xs ys : Side) (c leaves : ℕ) (g : Group)
     (S : Surveyed grid runs xs ys c leaves) (G : Grouped xs ys (length runs) c leaves g)
     (C : Centred (viewOf grid xs ys c) runs (boxOf grid xs ys c) c) where
+  -- the centre's view
   abbrev v : View
   v = viewOf grid xs ys c
 
+  -- the boxes in it
   abbrev box : ℕ → Box
   box = boxOf grid xs ys c
 
+  -- the star
   abbrev I : Instance
   I = starOf v runs box c
 
   -- ---- one axis
 
+  -- a run's first point is on a line of the grid
   first-lt : (d : Dir) (k : ℕ) → k < length runs → firsts xs ys k d < length (lines grid d)
   first-lt d k h = S .first-at k h .fits d
 
+  -- and its second point
   second-lt : (d : Dir) (k : ℕ) → k < length runs → seconds xs ys k d < length (lines grid d)
   second-lt d k h = S .second-at k h .fits d
 
+  -- the frame has the star's size
   size-is : (d : Dir) → I .size d ≡ gap (firsts xs ys c d) (seconds xs ys c d)
   size-is d = axis-size (length (lines grid d)) (firsts xs ys c d) (seconds xs ys c d) (first-lt d c (C .listed)) (second-lt d c (C .listed))
 
@@ -130,27 +142,35 @@ module _ (grid : Grid) (runs : List Run) (xs ys : Side) (c leaves : ℕ) (g : Gr
 
   -- the leaves on a line
   on-is : (d : Dir) (i k : ℕ) → k < length runs → i ≤ I .size d
-      → has (leavesOn (sideAt xs ys d) (length runs) leaves (lineOf (firsts xs ys c d) (seconds xs ys c d) i)) k ≡ meets grid runs c k && passes (box k) d (I .start d + i)
+      → has (leavesOn (sideAt xs ys d) (length runs) leaves (lineOf (firsts xs ys c d) (seconds xs ys c d) i)) k
+      ≡ meets grid runs c k && passes (box k) d (I .start d + i)
   unfolding leavesOn leafOn
-  on-is d i k h l = has-pack (leafOn (sideAt xs ys d) leaves (lineOf (firsts xs ys c d) (seconds xs ys c d) i)) (length runs) k h ∙ ap₂ _&&_ (S .is-leaf k h) (covers-is d k i h l)
+  on-is d i k h l =
+      has-pack (leafOn (sideAt xs ys d) leaves (lineOf (firsts xs ys c d) (seconds xs ys c d) i)) (length runs) k h
+      ∙ ap₂ _&&_ (S .is-leaf k h) (covers-is d k i h l)
 
   -- ---- the set of an edge
 
+  -- the leaves on line i of the frame
   onAt : Dir → ℕ → ℕ
   onAt d i = leavesOn (sideAt xs ys d) (length runs) leaves (lineOf (firsts xs ys c d) (seconds xs ys c d) i)
 
+  -- the group has them
   line-on : (d : Dir) (i : ℕ) → i ≤ I .size d → lineAt g d i .on ≡ onAt d i
   unfolding onAt
   line-on d i h = ap (λ l. l .on) (frame-lines d i h) ∙ frame-on _ _ (firsts xs ys c d) (seconds xs ys c d) i
 
+  -- and those on the line before as well
   line-into : (d : Dir) (i : ℕ) → suc i ≤ I .size d → lineAt g d (suc i) .into ≡ bitAnd (onAt d (suc i)) (onAt d i)
   unfolding onAt frameLine
   line-into d i h = ap (λ l. l .into) (frame-lines d (suc i) h)
 
+  -- the set of an edge: the leaves that have its cross line and both its ends' lines
   own-is : (d : Dir) (s t : ℕ) → suc s ≤ I .size d → t ≤ I .size (other d)
       → ownSet g d (suc s) t ≡ bitAnd (onAt (other d) t) (bitAnd (onAt d (suc s)) (onAt d s))
   own-is d s t h k = ap₂ bitAnd (line-on (other d) t k) (line-into d s h)
 
+  -- all of them are runs of the job
   own-lt : (d : Dir) (s t : ℕ) → suc s ≤ I .size d → t ≤ I .size (other d) → ownSet g d (suc s) t < 2 ^ length runs
   unfolding onAt
   own-lt d s t h k = rw (own-is d s t h k) (lt-of-le-of-lt (and-le-l _ _) (leaves-lt (sideAt xs ys (other d)) (length runs) leaves _))
@@ -159,6 +179,7 @@ module _ (grid : Grid) (runs : List Run) (xs ys : Side) (c leaves : ℕ) (g : Gr
   abbrev hits : Dir → ℕ → ℕ → Bool
   hits d k i = passes (box k) d (I .start d + i)
 
+  -- asked of one run
   own-has : (d : Dir) (s t k : ℕ) → suc s ≤ I .size d → t ≤ I .size (other d) → k < length runs
       → has (ownSet g d (suc s) t) k
       ≡ (meets grid runs c k && hits (other d) k t) && ((meets grid runs c k && hits d k (suc s)) && (meets grid runs c k && hits d k s))
@@ -177,11 +198,13 @@ module _ (grid : Grid) (runs : List Run) (xs ys : Side) (c leaves : ℕ) (g : Gr
       let n : I .start d + suc s ≡ suc (I .start d + s) = omega arith in
       (m, lies-in (box k) d (I .start d + s) (I .start (other d) + t) (rw (b′, rw n at b, a)))
 
+  -- and the other way round
   lies-own : (d : Dir) (s t k : ℕ) → suc s ≤ I .size d → t ≤ I .size (other d) → k < length runs → meets grid runs c k ≡ true
       → Lies (box k) d (I .start d + s) (I .start (other d) + t) → has (ownSet g d (suc s) t) k ≡ true
   unfolding liesIn
   lies-own d s t k h j l m i =
-      let (x, a) = and-split (hits d k s && passes (box k) d (suc (I .start d + s))) (hits (other d) k t) (in-lies (box k) d (I .start d + s) (I .start (other d) + t) i) in
+      let (x, a) = and-split (hits d k s && passes (box k) d (suc (I .start d + s))) (hits (other d) k t)
+      (in-lies (box k) d (I .start d + s) (I .start (other d) + t) i) in
       let (b′, b) = and-split (hits d k s) (passes (box k) d (suc (I .start d + s))) x in
       let n : I .start d + suc s ≡ suc (I .start d + s) = omega arith in
       own-has d s t k h j l ∙ rw (m, a, b′, n, b)
@@ -205,8 +228,11 @@ module _ (grid : Grid) (runs : List Run) (xs ys : Side) (c leaves : ℕ) (g : Gr
       )
 
   -- a set with a member is that member alone
-  own-one : (d : Dir) (s t k : ℕ) → suc s ≤ I .size d → t ≤ I .size (other d) → k < length runs → has (ownSet g d (suc s) t) k ≡ true → ownSet g d (suc s) t ≡ 2 ^ k
-  own-one d s t k h j l e = same-set (length runs) (ownSet g d (suc s) t) (2 ^ k) (own-lt d s t h j) (pow-lt l) (λ i b. one i b (outcome (has (ownSet g d (suc s) t) i)) ∙ sym (has-power k i))
+  own-one : (d : Dir) (s t k : ℕ) → suc s ≤ I .size d → t ≤ I .size (other d) → k < length runs
+      → has (ownSet g d (suc s) t) k ≡ true → ownSet g d (suc s) t ≡ 2 ^ k
+  own-one d s t k h j l e =
+      same-set (length runs) (ownSet g d (suc s) t) (2 ^ k) (own-lt d s t h j) (pow-lt l)
+      (λ i b. one i b (outcome (has (ownSet g d (suc s) t) i)) ∙ sym (has-power k i))
     where
       edge-in : (i : ℕ) → i < length runs → has (ownSet g d (suc s) t) i ≡ true → EdgeIn I d i s t
       edge-in i b z = let (m, y) = own-lies d s t i h j b z in lies-leaf v runs box c C d i s t m y
@@ -215,6 +241,7 @@ module _ (grid : Grid) (runs : List Run) (xs ys : Side) (c leaves : ℕ) (g : Gr
       one i b (inl z) = z ∙ sym (eq-eqb i k (separate v runs box c C .one d i k s t (edge-in i b z) (edge-in k l e)))
       one i b (inr z) = z ∙ sym (ne-eqb i k (λ q. true≢false (sym e ∙ ap (has (ownSet g d (suc s) t)) (sym q) ∙ z)))
 
+  -- the set of an edge names its owner
   own-names : (d : Dir) (s t : ℕ) → suc s ≤ I .size d → t ≤ I .size (other d) → Names (g .cross) (ownSet g d (suc s) t) (owner I d s t)
   own-names d s t h j = go (some-or-none (length runs) (ownSet g d (suc s) t) (own-lt d s t h j))
     where
@@ -222,9 +249,14 @@ module _ (grid : Grid) (runs : List Run) (xs ys : Side) (c leaves : ℕ) (g : Gr
       named k true b e = unlike b e
       named k false b e = alike b e
 
-      go : (ownSet g d (suc s) t ≡ 0) ⊎ ((k : ℕ) × (k < length runs) × (has (ownSet g d (suc s) t) k ≡ true)) → Names (g .cross) (ownSet g d (suc s) t) (owner I d s t)
+      go : (ownSet g d (suc s) t ≡ 0) ⊎ ((k : ℕ) × (k < length runs) × (has (ownSet g d (suc s) t) k ≡ true))
+          → Names (g .cross) (ownSet g d (suc s) t) (owner I d s t)
       go (inl e) =
-          rw (e, no-owner v runs box c C d s t (λ k m i. true≢false (sym (lies-own d s t k h j (meets-listed grid runs c k m) m i) ∙ ap (λ o. has o k) e ∙ none-has k)))
+          rw (
+            e,
+            no-owner v runs box c C d s t
+                (λ k m i. true≢false (sym (lies-own d s t k h j (meets-listed grid runs c k m) m i) ∙ ap (λ o. has o k) e ∙ none-has k)),
+          )
           nobody
       go (inr (k, l, e)) =
           let (m, i) = own-lies d s t k h j l e in
@@ -232,14 +264,19 @@ module _ (grid : Grid) (runs : List Run) (xs ys : Side) (c leaves : ℕ) (g : Gr
 
   -- ---- the group draws the star
 
+  -- an edge is as long as the star's
   length-is : (d : Dir) (s : ℕ) → s < I .size d → lineAt g d (suc s) .len ≡ I .len d s
   unfolding frameLine
   length-is d s h =
       let n = length (lines grid d) in
-      let l = axis-lower n (firsts xs ys c d) (seconds xs ys c d) (first-lt d c (C .listed)) (second-lt d c (C .listed)) s (omega (arith, size-is d)) in
-      ap (λ l. l .len) (frame-lines d (suc s) h) ∙ S .lengths d (lowerOf (firsts xs ys c d) (seconds xs ys c d) s) (lower-lt n (firsts xs ys c d) (seconds xs ys c d) s (first-lt d c (C .listed)) (second-lt d c (C .listed)) (omega (arith, size-is d)))
+      let p = first-lt d c (C .listed) in
+      let q = second-lt d c (C .listed) in
+      let l = axis-lower n (firsts xs ys c d) (seconds xs ys c d) p q s (omega (arith, size-is d)) in
+      ap (λ l. l .len) (frame-lines d (suc s) h)
+      ∙ S .lengths d (lowerOf (firsts xs ys c d) (seconds xs ys c d) s) (lower-lt n (firsts xs ys c d) (seconds xs ys c d) s p q (omega (arith, size-is d)))
       ∙ ap (λ i. getD (lines grid d) (suc i) 0 - getD (lines grid d) i 0) l
 
+  -- THEOREM: the group draws the star
   pub group-drawn : Drawn g I
   group-drawn =
       record {
@@ -250,15 +287,19 @@ module _ (grid : Grid) (runs : List Run) (xs ys : Side) (c leaves : ℕ) (g : Gr
       }
     where
       owners : (d : Dir) (s t : ℕ) → s ≤ I .size d → t ≤ I .size (other d) → Names (g .cross) (ownSet g d s t) (arrival I d s t)
-      owners d zero t h j = rw (ap (λ l. l .into) (frame-lines d 0 h) ∙ first-into _ _ (firsts xs ys c d) (seconds xs ys c d), and-zero-r (lineAt g (other d) t .on)) nobody
+      owners d zero t h j =
+          let e = ap (λ l. l .into) (frame-lines d 0 h) ∙ first-into _ _ (firsts xs ys c d) (seconds xs ys c d) in
+          rw (e, and-zero-r (lineAt g (other d) t .on)) nobody
       owners d (suc s) t h j = own-names d s t h j
 
 -- ---- the sizes suit
 
+-- how many lines a direction has
 many-of : (g : Group) (xs ys : Side) (n c leaves : ℕ) → Grouped xs ys n c leaves g → (d : Dir) → many g d ≡ suc (gap (firsts xs ys c d) (seconds xs ys c d))
 many-of g xs ys n c leaves G hor = G .wide
 many-of g xs ys n c leaves G ver = G .high
 
+-- no edge of the frame is longer than those of the axis
 line-short : (on len : ℕ → ℕ) (p q i : ℕ) → ((j : ℕ) → len j ≤ 2000000) → frameLine on len p q i .len ≤ 2000000
 unfolding frameLine
 line-short on len p q zero h = omega arith

@@ -46,9 +46,11 @@ module _ (a : Axis) (l first second : List ℕ) (n : ℕ) (s : Side) (e : a ≡ 
   first-line : (k : ℕ) → k < n → Listed l (getD first k 0) → (firstOf s k < length l) × (getD l (firstOf s k) 0 ≡ getD first k 0)
   first-line k h v = rw (z .firsts k h) (position-line a l e r (getD first k 0) v)
 
+  -- the same of second points
   second-line : (k : ℕ) → k < n → Listed l (getD second k 0) → (secondOf s k < length l) × (getD l (secondOf s k) 0 ≡ getD second k 0)
   second-line k h v = rw (z .seconds k h) (position-line a l e r (getD second k 0) v)
 
+  -- the lengths, and zeros behind them
   len-is : s .len ≡ padded 64 (table (lengthAt l) (pred (length l)))
   len-is = z .lengths ∙ ap (padded 64) (axis-lengths a l e)
 
@@ -58,50 +60,66 @@ module _ (a : Axis) (l first second : List ℕ) (n : ℕ) (s : Side) (e : a ≡ 
       ap (λ t. getD t i 0) len-is ∙ getD-padded 64 (table (lengthAt l) (pred (length l))) i (omega (arith, length-table (lengthAt l) (pred (length l))))
       ∙ getD-table (lengthAt l) (pred (length l)) i 0 (omega arith)
 
+  -- a bound of the axis' edges is one of the array
   length-le : (m : ℕ) → ((i : ℕ) → suc i < length l → lengthAt l i ≤ m) → (i : ℕ) → getD (s .len) i 0 ≤ m
   length-le m h i = go (decLt (suc i) (length l))
     where
       go : Dec (suc i < length l) → getD (s .len) i 0 ≤ m
       go (yes k) = rw (length-at i k) (h i k)
       go (no k) =
-          let b : getD (s .len) i 0 ≡ 0 = ap (λ t. getD t i 0) len-is ∙ getD-behind 64 (table (lengthAt l) (pred (length l))) i (omega (arith, length-table (lengthAt l) (pred (length l)))) in
+          let n = length-table (lengthAt l) (pred (length l)) in
+          let b : getD (s .len) i 0 ≡ 0 = ap (λ t. getD t i 0) len-is ∙ getD-behind 64 (table (lengthAt l) (pred (length l))) i (omega arith) in
           omega arith
 
 -- ---- the job
 
 module _ (x1 y1 x2 y2 : List ℕ) (n : ℕ) (few : n ≤ 32) (a b : Axis) (ea : a ≡ axisOf (distinct (values x1 x2 n))) (eb : b ≡ axisOf (distinct (values y1 y2 n)))
     (xs ys : Side) (sx : Sided a x1 x2 n xs) (sy : Sided b y1 y2 n ys) where
+  -- the job's runs
   abbrev runs : List Run
   runs = runsOf x1 y1 x2 y2 n
 
+  -- their grid
   abbrev grid : Grid
   grid = hanan (runsOf x1 y1 x2 y2 n)
 
+  -- there are n runs
   size : length runs ≡ n
   size = length-runs x1 y1 x2 y2 n
 
+  -- the column of a first point is the one that the side holds
   first-x : (k : ℕ) → k < n → (firstOf xs k < length (grid .columns)) × (getD (grid .columns) (firstOf xs k) 0 ≡ getD x1 k 0)
-  first-x k h = first-line a (grid .columns) x1 x2 n xs (axis-columns x1 y1 x2 y2 n a ea) (grid .columns-rise) sx k h (run-placed x1 y1 x2 y2 n k h .first-vertex .column)
+  first-x k h =
+      first-line a (grid .columns) x1 x2 n xs (axis-columns x1 y1 x2 y2 n a ea) (grid .columns-rise) sx k h (run-placed x1 y1 x2 y2 n k h .first-vertex .column)
 
+  -- and its row
   first-y : (k : ℕ) → k < n → (firstOf ys k < length (grid .rows)) × (getD (grid .rows) (firstOf ys k) 0 ≡ getD y1 k 0)
-  first-y k h = first-line b (grid .rows) y1 y2 n ys (axis-rows x1 y1 x2 y2 n b eb) (grid .rows-rise) sy k h (run-placed x1 y1 x2 y2 n k h .first-vertex .row)
+  first-y k h =
+      first-line b (grid .rows) y1 y2 n ys (axis-rows x1 y1 x2 y2 n b eb) (grid .rows-rise) sy k h (run-placed x1 y1 x2 y2 n k h .first-vertex .row)
 
+  -- the column of a second point
   second-x : (k : ℕ) → k < n → (secondOf xs k < length (grid .columns)) × (getD (grid .columns) (secondOf xs k) 0 ≡ getD x2 k 0)
-  second-x k h = second-line a (grid .columns) x1 x2 n xs (axis-columns x1 y1 x2 y2 n a ea) (grid .columns-rise) sx k h (run-placed x1 y1 x2 y2 n k h .second-vertex .column)
+  second-x k h =
+      second-line a (grid .columns) x1 x2 n xs (axis-columns x1 y1 x2 y2 n a ea) (grid .columns-rise) sx k h (run-placed x1 y1 x2 y2 n k h .second-vertex .column)
 
+  -- and its row
   second-y : (k : ℕ) → k < n → (secondOf ys k < length (grid .rows)) × (getD (grid .rows) (secondOf ys k) 0 ≡ getD y2 k 0)
-  second-y k h = second-line b (grid .rows) y1 y2 n ys (axis-rows x1 y1 x2 y2 n b eb) (grid .rows-rise) sy k h (run-placed x1 y1 x2 y2 n k h .second-vertex .row)
+  second-y k h =
+      second-line b (grid .rows) y1 y2 n ys (axis-rows x1 y1 x2 y2 n b eb) (grid .rows-rise) sy k h (run-placed x1 y1 x2 y2 n k h .second-vertex .row)
 
   -- there are at most 64 lines, so the positions are below 64
   few-columns : length (grid .columns) ≤ 64
   few-columns = rw (columns-are x1 y1 x2 y2 n) (omega (arith, few-lines x1 x2 n))
 
+  -- on either axis
   few-rows : length (grid .rows) ≤ 64
   few-rows = rw (rows-are x1 y1 x2 y2 n) (omega (arith, few-lines y1 y2 n))
 
+  -- so the columns' positions suit the tables
   pub placed-x : Side.Placed xs n
   placed-x k h = (omega (arith, first-x k h .0, few-columns), omega (arith, second-x k h .0, few-columns))
 
+  -- and the rows'
   pub placed-y : Side.Placed ys n
   placed-y k h = (omega (arith, first-y k h .0, few-rows), omega (arith, second-y k h .0, few-rows))
 
@@ -109,7 +127,8 @@ module _ (x1 y1 x2 y2 : List ℕ) (n : ℕ) (few : n ≤ 32) (a b : Axis) (ea : 
   pub short : (m : ℕ) → ((i : ℕ) → i < n → (getD x1 i 0 ≤ m) × (getD x2 i 0 ≤ m)) → ((i : ℕ) → i < n → (getD y1 i 0 ≤ m) × (getD y2 i 0 ≤ m))
       → (d : Dir) (i : ℕ) → getD (sideAt xs ys d .len) i 0 ≤ m
   short m hx hy hor =
-      length-le a (grid .columns) x1 x2 n xs (axis-columns x1 y1 x2 y2 n a ea) (grid .columns-rise) sx m (rw (columns-are x1 y1 x2 y2 n) (length-within x1 x2 n m hx))
+      length-le a (grid .columns) x1 x2 n xs (axis-columns x1 y1 x2 y2 n a ea) (grid .columns-rise) sx m
+      (rw (columns-are x1 y1 x2 y2 n) (length-within x1 x2 n m hx))
   short m hx hy ver =
       length-le b (grid .rows) y1 y2 n ys (axis-rows x1 y1 x2 y2 n b eb) (grid .rows-rise) sy m (rw (rows-are x1 y1 x2 y2 n) (length-within y1 y2 n m hy))
 
@@ -140,7 +159,8 @@ surveyed-centred grid runs xs ys c leaves S h star =
     (facing-rises grid (firsts xs ys c) (seconds xs ys c) (λ d. S .first-at c h .fits d) (λ d. S .second-at c h .fits d))
 
 module _ (grid : Grid) (runs : List Run) (xs ys : Side) (c leaves : ℕ) (S : Surveyed grid runs xs ys c leaves)
-    (C : Centred (viewOf grid xs ys c) runs (boxOf grid xs ys c) c) (g : Group) (G : Grouped xs ys (length runs) c leaves g) (words : List ℕ) (R : Ruled g words) where
+    (C : Centred (viewOf grid xs ys c) runs (boxOf grid xs ys c) c)
+    (g : Group) (G : Grouped xs ys (length runs) c leaves g) (words : List ℕ) (R : Ruled g words) where
   -- THEOREM: the table that `fill` leaves is exact for the star
   pub star-exact : Exact (starOf (viewOf grid xs ys c) runs (boxOf grid xs ys c) c) (tableOf (g .w) words)
   star-exact = ruled-exact g _ (group-drawn grid runs xs ys c leaves g S G C) words R

@@ -25,7 +25,7 @@ use Rattle.table.proofs.Filling.{position-lt, area}
 
 -- ---- the choice of a direction
 
--- the walk goes back along a column or a row that is there
+-- where the walk goes back along a column, there is one
 pub up-true : (v : Bool) (a b : ℕ) → 0 < a + b → (v && ltb 0 b || eqb a 0) ≡ true → 1 ≤ b
 up-true v a b h e = go (or-split (v && ltb 0 b) (eqb a 0) e)
   where
@@ -33,6 +33,7 @@ up-true v a b h e = go (or-split (v && ltb 0 b) (eqb a 0) e)
     go (inl f) = ltb-true 0 b (and-split v (ltb 0 b) f .1)
     go (inr f) = omega (arith, eqb-true a 0 f)
 
+-- and so where it goes back along a row
 pub up-false : (v : Bool) (a b : ℕ) → (v && ltb 0 b || eqb a 0) ≡ false → 1 ≤ a
 up-false v a b e = go (v && ltb 0 b) e
   where
@@ -46,21 +47,28 @@ up-false v a b e = go (v && ltb 0 b) e
 pub lowest-le : (s : ℕ) → s < 2 ^ 32 → getD (members s) 0 32 ≤ 32
 lowest-le s h = rw (← lowest-is s h) (trailing-le 32 s)
 
+-- so a byte holds it
 pub lowest-byte : (s n : ℕ) → s < 2 ^ 32 → n ≡ getD (members s) 0 32 → n % 256 ≡ getD (members s) 0 32
 lowest-byte s n h e = let l = lowest-le s h in mod-eq-of-lt (omega arith) ∙ e
 
 -- ---- the edges along and across, by the direction
 
 module _ (words : List ℕ) (p : ℕ) (col row : Line) (t : Taken) (cross : ℕ) where
-  pub arrive-up : t .ver ≡ true → arriveOf words p col row t cross ≡ beforeOf t (edgeBy (pairOf words p 1) row col) (edgeBy (pairOf words p 0) col row) cross
+  -- where the walk goes up
+  pub arrive-up : t .ver ≡ true
+      → arriveOf words p col row t cross ≡ beforeOf t (edgeBy (pairOf words p 1) row col) (edgeBy (pairOf words p 0) col row) cross
   unfolding arriveOf
   arrive-up h =
-      ap (λ v. cond v (beforeOf t (edgeBy (pairOf words p 1) row col) (edgeBy (pairOf words p 0) col row) cross) (beforeOf t (edgeBy (pairOf words p 0) col row) (edgeBy (pairOf words p 1) row col) cross)) h
+      ap (λ v. cond v (beforeOf t (edgeBy (pairOf words p 1) row col) (edgeBy (pairOf words p 0) col row) cross)
+      (beforeOf t (edgeBy (pairOf words p 0) col row) (edgeBy (pairOf words p 1) row col) cross)) h
 
-  pub arrive-right : t .ver ≡ false → arriveOf words p col row t cross ≡ beforeOf t (edgeBy (pairOf words p 0) col row) (edgeBy (pairOf words p 1) row col) cross
+  -- where it goes right
+  pub arrive-right : t .ver ≡ false
+      → arriveOf words p col row t cross ≡ beforeOf t (edgeBy (pairOf words p 0) col row) (edgeBy (pairOf words p 1) row col) cross
   unfolding arriveOf
   arrive-right h =
-      ap (λ v. cond v (beforeOf t (edgeBy (pairOf words p 1) row col) (edgeBy (pairOf words p 0) col row) cross) (beforeOf t (edgeBy (pairOf words p 0) col row) (edgeBy (pairOf words p 1) row col) cross)) h
+      ap (λ v. cond v (beforeOf t (edgeBy (pairOf words p 1) row col) (edgeBy (pairOf words p 0) col row) cross)
+      (beforeOf t (edgeBy (pairOf words p 0) col row) (edgeBy (pairOf words p 1) row col) cross)) h
 
 -- ---- the arrays that hold the moves
 
@@ -75,11 +83,13 @@ pub record Held (g : Group) (words : List ℕ) (n : ℕ) (a b : ℕ) (steps shar
   pub whole : (f : ℕ → Move) → ((j : ℕ) → i ≤ j → f j ≡ moveAt steps shares j) → table f i ≡ reverse (walk g words i t a b)
       → table f n ≡ reverse (walk g words n begin (pred (g .w)) (pred (g .h)))
 
+-- at the last point nothing is held
 pub held-none : (g : Group) (words steps shares : List ℕ) → Fit g words → length steps ≡ 128 → length shares ≡ 128
     → Held g words (pred (g .w) + pred (g .h)) (pred (g .w)) (pred (g .h)) steps shares begin (pred (g .w) + pred (g .h))
 held-none g words steps shares f h k =
     record { column = omega (arith, f .some-columns); row = omega (arith, f .some-rows); left = refl; steps-size = h; shares-size = k; whole = λ m same e. e }
 
+-- one move more
 pub held-more : (g : Group) (words : List ℕ) (n a b : ℕ) (steps shares : List ℕ) (t u : Taken) (i k m : ℕ) → i < 128
     → u ≡ arriveAt g words t a b → k ≡ upNo (u .ver) a b → k ≤ b → 1 - k ≤ a → k ≤ 1 → m ≡ shareNo u (g .cross)
     → Held g words n a b steps shares t (suc i) → Held g words n (a - (1 - k)) (b - k) (set steps i k) (set shares i m) u i
@@ -106,6 +116,7 @@ held-more g words n a b steps shares t u i k m l e c h h′ o d r =
     on : moveBy k m ∷ walk g words i u (a - (1 - k)) (b - k) ≡ walk g words (suc i) t a b
     on = rw (d, c, e)
 
+-- at the first point the arrays hold the whole walk
 pub held-all : (g : Group) (words : List ℕ) (n a b : ℕ) (steps shares : List ℕ) (t : Taken) → Held g words n a b steps shares t 0
     → table (moveAt steps shares) n ≡ reverse (walk g words n begin (pred (g .w)) (pred (g .h)))
 unfolding walk

@@ -16,13 +16,15 @@ use Rattle.table.specs.Side.{firstOf, secondOf, leavesOn}
 
 -- ---- the lines that a run from position p to position q passes
 
--- the line after i steps, and the lower one of the lines after i and after i + 1 steps
+-- the line after i steps
 unfoldable pub lineOf : ℕ → ℕ → ℕ → ℕ
 lineOf p q i = cond (ltb q p) (p - i) (p + i)
 
+-- the lower one of the lines after i and after i + 1 steps
 unfoldable pub lowerOf : ℕ → ℕ → ℕ → ℕ
 lowerOf p q i = cond (ltb q p) (p - suc i) (p + i)
 
+-- a line that is not there
 abbrev pub blank : Line
 blank = record { on = 0; into = 0; len = 0 }
 

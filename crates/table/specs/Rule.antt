@@ -18,11 +18,12 @@ use Rattle.table.specs.Frame.{blank}
 
 -- ---- the words
 
--- how many lines the frame has along d, and line i of them
+-- how many lines the frame has along d
 abbrev pub many : Group → Dir → ℕ
 many g hor = g .w
 many g ver = g .h
 
+-- line i of them
 abbrev pub lineAt : Group → Dir → ℕ → Line
 lineAt g hor i = getD (g .cols) i blank
 lineAt g ver i = getD (g .rows) i blank
@@ -36,6 +37,7 @@ abbrev pub spot : ℕ → Dir → ℕ → ℕ → ℕ
 spot w hor s t = position w s t
 spot w ver s t = position w t s
 
+-- a direction as a number
 abbrev pub dirNo : Dir → ℕ
 dirNo hor = 0
 dirNo ver = 1
@@ -51,6 +53,7 @@ tableOf w words d run s t = getD words (spot w d s t * 4 + dirNo d * 2 + 1) 0
 abbrev pub ownSet : Group → Dir → ℕ → ℕ → ℕ
 ownSet g d s t = bitAnd (lineAt g (other d) t .on) (lineAt g d s .into)
 
+-- two words
 abbrev pub pair : ℕ → ℕ → Pair
 pair x y = record { best = x; run = y }
 
@@ -76,9 +79,11 @@ unlessOwn e o = cond (eqb (e .own) o) 0 (e .best)
 unfoldable pub ifOwn : Edge → ℕ → ℕ
 ifOwn e o = cond (eqb (e .own) o) (e .run) 0
 
+-- the best word of any walk to where the edge begins, counting the start
 abbrev pub allOf : Edge → Edge → ℕ → ℕ
 allOf along across start = max (max (along .best) (across .best)) start
 
+-- the same without walks that come by an edge of o
 abbrev pub newOf : Edge → Edge → ℕ → ℕ → ℕ
 newOf along across start o = max (max (unlessOwn along o) (unlessOwn across o)) start
 
@@ -95,19 +100,22 @@ ruleOf along across start o len cross =
 
 -- ---- the rule of the table
 
+-- the start counts 1, so that 0 says that no walk comes here
 abbrev pub startOf : ℕ → ℕ
 startOf u = cond (eqb u 0) 1 0
 
 -- the words of the edge along d from (s, t)
 unfoldable pub entered : Group → List ℕ → Dir → ℕ → ℕ → Pair
 entered g words d s t =
-    ruleOf (edgeAt g words d s t) (edgeAt g words (other d) t s) (startOf (spot (g .w) d s t)) (ownSet g d (suc s) t) (lineAt g d (suc s) .len) (g .cross)
+    ruleOf (edgeAt g words d s t) (edgeAt g words (other d) t s) (startOf (spot (g .w) d s t))
+    (ownSet g d (suc s) t) (lineAt g d (suc s) .len) (g .cross)
 
 -- the words of the edge along d that ends at (s, t): there is none where s is 0
 abbrev pub cellOf : Group → List ℕ → Dir → ℕ → ℕ → Pair
 cellOf g words d zero t = pair 0 0
 cellOf g words d (suc s) t = entered g words d s t
 
+-- the two words of the edge that ends at (s, t) along d
 abbrev pub pairAt : ℕ → List ℕ → Dir → ℕ → ℕ → Pair
 pairAt w words d s t = pair (tableOf w words d best s t) (tableOf w words d run s t)
 

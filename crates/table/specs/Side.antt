@@ -22,10 +22,11 @@ pub record Sided (axis : Axis) (first second : List ℕ) (n : ℕ) (s : Side) : 
   pub seconds : PlacesOf (axis .lines) (axis .count) second n (s .second)
   pub lengths : s .len ≡ padded 64 (table (lengthAt (axis .lines)) (pred (axis .count)))
 
--- the positions of the first and of the second point of run k
+-- the position of the first point of run k
 abbrev pub firstOf : Side → ℕ → ℕ
 firstOf s k = getD (s .first) k 0
 
+-- and of its second point
 abbrev pub secondOf : Side → ℕ → ℕ
 secondOf s k = getD (s .second) k 0
 

@@ -54,6 +54,7 @@ arriveOf words p col row t cross =
     cond (t .ver) (beforeOf t (edgeBy (pairOf words p 1) row col) (edgeBy (pairOf words p 0) col row) cross)
     (beforeOf t (edgeBy (pairOf words p 0) col row) (edgeBy (pairOf words p 1) row col) cross)
 
+-- the same at the vertex in column a and row b of a group
 abbrev pub arriveAt : Group → List ℕ → Taken → ℕ → ℕ → Taken
 arriveAt g words t a b = arriveOf words (position (g .w) a b) (lineAt g hor a) (lineAt g ver b) t (g .cross)
 
@@ -67,14 +68,17 @@ upNo v a b = cond (v && ltb 0 b || eqb a 0) 1 0
 unfoldable pub shareNo : Taken → ℕ → ℕ
 shareNo t cross = cond (isCross (t .edge) cross && not (t .run)) 32 (getD (members (t .edge .own)) 0 32)
 
+-- a direction by its number
 abbrev pub dirBy : ℕ → Dir
 dirBy zero = hor
 dirBy (suc n) = ver
 
+-- a leaf, or none
 abbrev pub shareIf : Bool → ℕ → Share
 shareIf true n = with n
 shareIf false n = alone
 
+-- a move by its two numbers
 abbrev pub moveBy : ℕ → ℕ → Move
 moveBy d n = record { dir = dirBy d; share = shareIf (ltb n 32) n }
 
@@ -89,6 +93,7 @@ walk g words (suc n) t a b =
 abbrev pub begin : Taken
 begin = record { ver = false; run = false; edge = record { best = 0; run = 0; own = 0; len = 0 } }
 
+-- move i of two arrays
 abbrev pub moveAt : List ℕ → List ℕ → ℕ → Move
 moveAt steps shares i = moveBy (getD steps i 0) (getD shares i 0)
 
