@@ -1,9 +1,9 @@
 // The planner: a job's bytes into the bytes of a least plan.
-pub mod clear;
-pub mod codes;
-pub mod figures;
-pub mod judge;
-pub mod star;
+mod clear;
+mod codes;
+mod figures;
+mod judge;
+mod star;
 
 use intersection::Star;
 use job::Job;

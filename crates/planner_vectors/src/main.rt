@@ -133,13 +133,19 @@ fn plan_kept(out: &[u8], length: usize) -> bool {
     (end + 3 == length) & bytes_kept(out, length)
 }
 
+fn length_code(n: usize) -> i32
+    requires { ⌜ n ≤ 36822 ⌝ }
+{
+    n as i32
+}
+
 // The same for the code that is the plan's length.
 fn map_plan_kept(out: &[u8], code: i32) -> bool {
     let end = print_figures(out);
     if end > 36819 {
         return false;
     }
-    (planner::codes::length_code(end + 3) == code) & bytes_kept(out, end + 3)
+    (length_code(end + 3) == code) & bytes_kept(out, end + 3)
 }
 
 // Every word of the sheet is 3 and every byte of the buffer is 7 before a call.
