@@ -2,7 +2,7 @@
 -- its stretch and of no other's, and the first one says where the stretch begins.
 use mathlib.Core.Path.{_≡_, refl, sym, ap, _∙_}
 use mathlib.Core.Bool.{Bool, true, false, cond}
-use mathlib.Core.List.{List, [], _∷_, _++_, map-append, append-nil}
+use mathlib.Core.List.{List, [], _∷_, _++_, append-nil}
 use Prim.Native.Nat.{ℕ, zero, suc, _+_, _≤_, _<_}
 use native.Mathlib.Decide.{ℕ-discrete}
 use native.Mathlib.Numerals.{add-one}
@@ -12,11 +12,12 @@ use lib.Dec.{ltb, eqb}
 use lib.ListN.{length, length-append, length-map, getD, set}
 use lib.Seq.{getD-set-same, getD-set-other}
 use Rattle.network.specs.Lists.{select, each}
-use Rattle.network.specs.Steps.{Dir, hor, steps}
+use Rattle.network.specs.Steps.{hor, steps}
 use Rattle.sharing.specs.Trace.{Move}
 use Rattle.sharing.specs.Walk.{dirs, moved}
 use Rattle.sharing.specs.Leaf.{isWith, before, stretch}
-use Rattle.route.proofs.Steps.{steps-append, steps-all}
+use Rattle.sharing.proofs.Leaf.{moved-append}
+use Rattle.route.proofs.Steps.{steps-all}
 use Rattle.layout.specs.declared.Stretch.{Stretch}
 use Rattle.table.specs.Walk.{dirBy, shareIf, moveBy, moveAt}
 use Rattle.layout.specs.Stretch.{alongRow, nothing, grown, Found}
@@ -35,10 +36,6 @@ moves-next steps shares n = rw add-one
 pub moves-length : (steps shares : List ℕ) (n : ℕ) → length (firstMoves steps shares n) ≡ n
 moves-length steps shares zero = refl
 moves-length steps shares (suc n) = length-append (firstMoves steps shares n) _ ∙ omega (arith, moves-length steps shares n)
-
--- the moves along e of two walks, one after the other
-pub moved-append : (e : Dir) (p q : List Move) → moved e (p ++ q) ≡ moved e p + moved e q
-moved-append e p q = ap (steps e) (map-append (λ (x : Move). x .dir) p q) ∙ steps-append e (dirs p) (dirs q)
 
 -- a step along the row is one more of those
 pub moved-next : (p : List Move) (v share : ℕ) → moved hor (p ++ moveBy v share ∷ []) ≡ moved hor p + alongRow v

@@ -26,16 +26,11 @@ use Rattle.table.proofs.Survey.{surveyed-centred, star-exact, star-figure, star
 use Rattle.route.specs.declared.Route.{Route}
 use Rattle.route.specs.Route.{OnGrid}
 use Rattle.layout.specs.Laid.{unlaid, AllLayable, AllLaid}
+use Rattle.layout.proofs.Lists.{all-taken}
 use Rattle.layout.proofs.Fitting.{traced-layable}
 use Rattle.layout.proofs.Drawing.{laid-on-grid, laid-best}
 use Rattle.planner.specs.declared.star.Layout.{Layout}
 use Rattle.planner.specs.Stages.{StarSurveyed, LaidOut}
-
--- what holds of the first n by their index
-all-first : {A : Type 0} (P : A → Type 0) (n : ℕ) (l : List A) (d : A) → n ≤ length l → ((k : ℕ) → k < n → P (getD l k d)) → All P (take n l)
-all-first P zero l d h f = tt
-all-first P (suc n) [] d h f = absurd (omega arith)
-all-first P (suc n) (a ∷ l) d h f = (f 0 (omega arith), all-first P n l d (omega arith) (λ k i. f (suc k) (omega arith)))
 
 module _ (runs : List Run) (xs ys : Side) (n c leaves : ℕ) (L : StarSurveyed runs xs ys n c leaves) where
   few-runs : n ≤ 32
@@ -106,7 +101,7 @@ module _ (runs : List Run) (xs ys : Side) (n c leaves : ℕ) (L : StarSurveyed r
           record {
             best = rw (e ∙ star-figure (hanan runs) runs xs ys c leaves (L .surveyed) centred g G′ words R)
                 (laid-best (hanan runs) runs xs ys c leaves (L .surveyed) (walked g words) (L .few-lines) (in-list c (L .listed)) (L .star) T exact traced routes size all);
-            on-grid = all-first (OnGrid (hanan runs)) (length runs) routes unlaid size (λ k h.
+            on-grid = all-taken (OnGrid (hanan runs)) (length runs) routes unlaid size (λ k h.
                 laid-on-grid xs ys c (walked g words) k (getD routes k unlaid) (walk-fits .layable k (omega (arith, L .count))) (all .laid k h) (hanan runs)
                 (L .surveyed .first-at k h .fits hor, L .surveyed .second-at k h .fits hor) (L .surveyed .first-at k h .fits ver, L .surveyed .second-at k h .fits ver));
             full = length-take-le (length runs) routes size;

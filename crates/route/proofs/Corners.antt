@@ -15,14 +15,14 @@ use Rattle.network.specs.Corners.{samePoint, corners}
 use Rattle.network.proofs.Tests.{same-test}
 use Rattle.network.proofs.Rising.{one-index}
 use Rattle.network.proofs.Lanes.{at-fits, point-path}
-use Rattle.network.proofs.Corners.{corners-manhattan}
+use Rattle.network.proofs.Corners.{point-true, corners-manhattan}
 use Rattle.network.proofs.Drawn.{from-steps}
 use Rattle.route.specs.declared.Route.{Route}
 use Rattle.route.specs.Route.{below-at, length-below, stepsOf, columnsOf, rowsOf, drawnOf, OnGrid, numbered, cornersOf, placed, Tables}
 use Rattle.route.specs.Walker.{standing}
 use Rattle.route.specs.Pits.{pitsOf}
 use Rattle.route.proofs.Lists.{all-map, map-cong, flatten-map, flatten-all}
-use Rattle.route.proofs.Distinct.{same-true, same-self, unique-map}
+use Rattle.route.proofs.Distinct.{same-self, unique-map}
 use Rattle.route.proofs.Lanes.{fits-more, columns-extent, rows-extent}
 use Rattle.route.proofs.Turns.{turns, turns-map, turns-all, turns-length, corners-turns}
 use Rattle.route.proofs.Walk.{few-steps, left, on-start, vertexAt, left-turns}
@@ -101,13 +101,13 @@ module _ (g : Grid) (few-columns : length (g .columns) ≤ 64) (few-rows : lengt
   placed-apart p q h k =
       same-test (samePoint (placed columns rows p) (placed columns rows q)) (samePoint p q)
       (λ e.
-      let s = same-true (placed columns rows p) (placed columns rows q) e in
+      let s = point-true (placed columns rows p) (placed columns rows q) e in
       let a = one-index (g .columns) (g .columns-rise) (p .x) (q .x) (h .column) (k .column)
       (sym (t .column-at (p .x) (h .column)) ∙ ap (λ u. u .x) s ∙ t .column-at (q .x) (k .column)) in
       let b = one-index (g .rows) (g .rows-rise) (p .y) (q .y) (h .row) (k .row)
       (sym (t .row-at (p .y) (h .row)) ∙ ap (λ u. u .y) s ∙ t .row-at (q .y) (k .row)) in
       rw (point-path a b) (same-self q))
-      (λ e. rw (same-true p q e) (same-self (placed columns rows q)))
+      (λ e. rw (point-true p q e) (same-self (placed columns rows q)))
 
   -- Routes have as many pits in line indexes as on the grid.
   pub pits-placed : (routes : List Route) → All (OnGrid g) routes → pitsOf (map (λ r. corners (drawnOf g r)) routes) ≡ pitsOf (map cornersOf routes)

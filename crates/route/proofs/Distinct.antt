@@ -5,24 +5,16 @@ use mathlib.Core.Bool.{Bool, true, false, cond, _||_}
 use mathlib.Core.List.{List, [], _∷_, _++_, map}
 use Prim.Native.Nat.{ℕ, _+_}
 use native.Mathlib.Omega.{arith}
-use borrow.Author.Tests.{eq-eqb, eqb-true}
+use borrow.Author.Tests.{eq-eqb}
 use lib.ListN.{length}
-use lib.Dec.{eqb}
 use Rattle.network.specs.Plane.{Point}
 use Rattle.network.specs.Lists.{All}
 use Rattle.network.specs.Corners.{samePoint}
-use Rattle.network.proofs.Tests.{and-split, same-test}
-use Rattle.network.proofs.Lanes.{point-path}
+use Rattle.network.proofs.Tests.{same-test}
+use Rattle.network.proofs.Corners.{point-true}
 use Rattle.route.specs.Pits.{among, unique}
 
 -- ---- the same point
-
--- the test tells whether two points are equal
-pub same-true : (p q : Point) → samePoint p q ≡ true → p ≡ q
-unfolding samePoint
-same-true p q e =
-    let b = and-split (eqb (p .x) (q .x)) (eqb (p .y) (q .y)) e in
-    point-path (eqb-true (p .x) (q .x) (b .0)) (eqb-true (p .y) (q .y) (b .1))
 
 pub same-self : (p : Point) → samePoint p p ≡ true
 unfolding samePoint
@@ -31,8 +23,8 @@ same-self p = rw (eq-eqb (p .x) (p .x) refl, eq-eqb (p .y) (p .y) refl)
 same-turned : (p q : Point) → samePoint p q ≡ samePoint q p
 same-turned p q =
     same-test (samePoint p q) (samePoint q p)
-    (λ e. rw (same-true p q e) (same-self q))
-    (λ e. rw (same-true q p e) (same-self p))
+    (λ e. rw (point-true p q e) (same-self q))
+    (λ e. rw (point-true q p e) (same-self p))
 
 -- ---- one point more
 
@@ -70,7 +62,7 @@ pub unique-last : (l : List Point) (p : Point) → length (unique (l ++ p ∷ []
 unfolding unique
 unique-last [] p = refl
 unique-last (q ∷ l) p =
-    let e : (samePoint q p ≡ true → among p l ≡ among q l) = λ s. rw (same-true q p s) in
+    let e : (samePoint q p ≡ true → among p l ≡ among q l) = λ s. rw (point-true q p s) in
     unique-one q (l ++ p ∷ [])
     ∙ rw (among-last q p l, unique-last l p, same-turned p q) (new-or-not (among q l) (samePoint q p) (among p l) (length (unique l)) e)
     ∙ ap (λ n. n + cond (among p (q ∷ l)) 0 1) (sym (unique-one q l))

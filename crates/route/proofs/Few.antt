@@ -21,15 +21,16 @@ use Rattle.network.specs.Corners.{samePoint, straightOn, cornersFrom, corners}
 use Rattle.network.proofs.Tests.{and-join, or-join}
 use Rattle.network.proofs.Monotone.{Towards, towards-trans, Monotone, monotone}
 use Rattle.network.proofs.Lanes.{lane-next, point-path}
+use Rattle.network.proofs.Corners.{point-true}
 use Rattle.network.proofs.Counting.{route-frame}
 use Rattle.route.proofs.Lanes.{fits-few}
-use Rattle.route.proofs.Distinct.{same-true, same-self}
+use Rattle.route.proofs.Distinct.{same-self}
 
 -- a route that stands still goes straight on
 still-straight : (p q r : Point) → Straight (q to r) → samePoint p q ≡ true → straightOn p q r ≡ true
 unfolding straightOn
 still-straight p q r s e =
-    rw (same-true p q e)
+    rw (point-true p q e)
     (or-join (eqb (q .x) (q .x) && eqb (q .x) (r .x)) (eqb (q .y) (q .y) && eqb (q .y) (r .y)) (go s))
   where
     go : Straight (q to r) → (eqb (q .x) (q .x) && eqb (q .x) (r .x) ≡ true) ⊎ (eqb (q .y) (q .y) && eqb (q .y) (r .y) ≡ true)

@@ -14,7 +14,8 @@ use Rattle.network.specs.Corners.{samePoint}
 use Rattle.network.proofs.Lanes.{point-path}
 use Rattle.route.specs.Pits.{among, unique, markOf, Marked, Counted}
 use Rattle.route.proofs.Lists.{map-take, flatten-last}
-use Rattle.route.proofs.Distinct.{same-true, same-self, among-last, unique-last}
+use Rattle.network.proofs.Corners.{point-true}
+use Rattle.route.proofs.Distinct.{same-self, among-last, unique-last}
 
 -- points of the grid of indexes have marks of their own
 other-mark : (p q : Point) → p .x < 64 → q .x < 64 → samePoint q p ≡ false → markOf q ≡ markOf p → ⊥
@@ -41,7 +42,7 @@ module _ (ms : List ℕ) (p : Point) (column : p .x < 64) (row : p .y < 64) wher
         or-false false = refl
 
         go : (b : Bool) → samePoint q p ≡ b → eqb (getD ns (markOf q) 0) 0 ≡ not (among q l || b)
-        go true e = rw (same-true q p e) (ne-eqb (getD ns (markOf p) 0) 0 here ∙ or-true (among p l))
+        go true e = rw (point-true q p e) (ne-eqb (getD ns (markOf p) 0) 0 here ∙ or-true (among p l))
         go false e = rw (there (markOf q) (other-mark p q column h e)) (m .marked q h k ∙ or-false (among q l))
 
     marked-more : (l : List Point) → Marked ms l → Marked ns (l ++ p ∷ [])

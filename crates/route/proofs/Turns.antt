@@ -13,6 +13,7 @@ use Rattle.network.specs.Plane.{Point}
 use Rattle.network.specs.Grid.{Grid}
 use Rattle.network.specs.Steps.{Dir, hor, ver, steps, Lane, extent, at, Fits, spot, drawFrom, drawn}
 use Rattle.network.specs.Corners.{samePoint, straightOn, cornersFrom, corners}
+use Rattle.network.proofs.Corners.{corner-on, corner-at, corner-end}
 use Rattle.route.proofs.Lanes.{lane-apart}
 use Rattle.route.specs.Walker.{headingOf}
 
@@ -68,16 +69,6 @@ module _ (f g : ℕ → ℕ → Point) (m : Point → Point) (I J : ℕ) (same :
       (turns-map i (suc j) 1 s (omega arith) (omega arith))
 
 -- ---- the corners of a drawn route
-
--- a point at which the route goes straight on is left out, any other stays
-straight-corner : (p q r : Point) (l : List Point) → straightOn p q r ≡ true → cornersFrom p q (r ∷ l) ≡ cornersFrom p r l
-straight-corner p q r l e = ap (λ t. elim t as (λ u. List Point) [ true ↦ cornersFrom p r l | false ↦ q ∷ cornersFrom q r l ]) e
-
-turn-corner : (p q r : Point) (l : List Point) → straightOn p q r ≡ false → cornersFrom p q (r ∷ l) ≡ q ∷ cornersFrom q r l
-turn-corner p q r l e = ap (λ t. elim t as (λ u. List Point) [ true ↦ cornersFrom p r l | false ↦ q ∷ cornersFrom q r l ]) e
-
-last-corner : (p q : Point) → samePoint p q ≡ false → cornersFrom p q [] ≡ q ∷ []
-last-corner p q e = ap (λ t. elim t as (λ u. List Point) [ true ↦ [] | false ↦ q ∷ [] ]) e
 
 or-true : (b : Bool) → b || true ≡ true
 or-true true = refl
@@ -137,17 +128,17 @@ module _ (g : Grid) (X Y : Lane) (fx : Fits (g .columns) X) (fy : Fits (g .rows)
   turns-from : (s : List Dir) (d : Dir) (k i j : ℕ) → Behind d k i j → i + steps hor s ≤ extent X → j + steps ver s ≤ extent Y
       → cornersFrom (origin d k i j) (spot g X Y i j) (drawFrom g X Y i j s) ≡ turns (spot g X Y) i j (headingOf d) s
   unfolding steps
-  turns-from [] d k i j b p q = last-corner _ _ (moved d k i j b (omega arith) (omega arith))
+  turns-from [] d k i j b p q = corner-end _ _ (moved d k i j b (omega arith) (omega arith))
   turns-from (hor ∷ s) hor k i j b p q =
-      straight-corner _ _ _ (drawFrom g X Y (suc i) j s) (on-row k i j) ∙ turns-from s hor k (suc i) j (omega arith) (omega arith) (omega arith)
+      corner-on _ _ _ (drawFrom g X Y (suc i) j s) (on-row k i j) ∙ turns-from s hor k (suc i) j (omega arith) (omega arith) (omega arith)
   turns-from (ver ∷ s) hor k i j b p q =
-      turn-corner _ _ _ (drawFrom g X Y i (suc j) s) (off-row k i j b (omega arith) (omega arith))
+      corner-at _ _ _ (drawFrom g X Y i (suc j) s) (off-row k i j b (omega arith) (omega arith))
       ∙ ap (λ l. spot g X Y i j ∷ l) (turns-from s ver j i (suc j) (omega arith) (omega arith) (omega arith))
   turns-from (hor ∷ s) ver k i j b p q =
-      turn-corner _ _ _ (drawFrom g X Y (suc i) j s) (off-column k i j b (omega arith) (omega arith))
+      corner-at _ _ _ (drawFrom g X Y (suc i) j s) (off-column k i j b (omega arith) (omega arith))
       ∙ ap (λ l. spot g X Y i j ∷ l) (turns-from s hor i (suc i) j (omega arith) (omega arith) (omega arith))
   turns-from (ver ∷ s) ver k i j b p q =
-      straight-corner _ _ _ (drawFrom g X Y i (suc j) s) (on-column k i j) ∙ turns-from s ver k i (suc j) (omega arith) (omega arith) (omega arith)
+      corner-on _ _ _ (drawFrom g X Y i (suc j) s) (on-column k i j) ∙ turns-from s ver k i (suc j) (omega arith) (omega arith) (omega arith)
 
   -- The corners of the route that a step list draws are its turns; a walk that stands still, with no heading, turns at its first step.
   pub corners-turns : (s : List Dir) → steps hor s ≤ extent X → steps ver s ≤ extent Y → corners (drawn g X Y s) ≡ turns (spot g X Y) 0 0 2 s

@@ -186,12 +186,12 @@ is-mine : (k : ℕ) (x : Move) → Mine k x → isWith k (x .share) ≡ true
 unfolding isWith
 is-mine k x e = rw (e, eq-eqb k k refl)
 
-is-other : (k : ℕ) (s : Share) → ¬ (s ≡ with k) → isWith k s ≡ false
+pub is-other : (k : ℕ) (s : Share) → ¬ (s ≡ with k) → isWith k s ≡ false
 unfolding isWith
 is-other k alone n = refl
 is-other k (with j) n = ne-eqb j k (λ e. n (ap with e))
 
-all-reverse : {A : Type 0} (P : A → Type 0) (l : List A) → All P l → All P (reverse l)
+pub all-reverse : {A : Type 0} (P : A → Type 0) (l : List A) → All P l → All P (reverse l)
 all-reverse {A} P l a = onto l [] a tt
   where
     onto : (l m : List A) → All P l → All P m → All P (reverseAux l m)
@@ -199,18 +199,18 @@ all-reverse {A} P l a = onto l [] a tt
     onto (x ∷ l) m a b = onto l (x ∷ m) (a .1) (a .0, b)
 
 module _ (k : ℕ) where
-  stretch-none : (l : List Move) → All (Other k) l → stretch k l ≡ []
+  pub stretch-none : (l : List Move) → All (Other k) l → stretch k l ≡ []
   unfolding stretch
   stretch-none [] a = refl
   stretch-none (x ∷ l) a = rw (is-other k (x .share) (a .0), select) (stretch-none l (a .1))
 
-  stretch-parts : (u m z : List Move) → All (Other k) u → All (Mine k) m → All (Other k) z → stretch k (u ++ m ++ z) ≡ m
+  pub stretch-parts : (u m z : List Move) → All (Other k) u → All (Mine k) m → All (Other k) z → stretch k (u ++ m ++ z) ≡ m
   unfolding stretch
   stretch-parts (x ∷ u) m z a b c = rw (is-other k (x .share) (a .0), select) (stretch-parts u m z (a .1) b c)
   stretch-parts [] (x ∷ m) z a b c = rw (is-mine k x (b .0), select) (ap (λ l. x ∷ l) (stretch-parts [] m z tt (b .1) c))
   stretch-parts [] [] z a b c = stretch-none z c
 
-  before-parts : (u m z : List Move) → All (Other k) u → All (Mine k) m → 0 < length m → before k (u ++ m ++ z) ≡ u
+  pub before-parts : (u m z : List Move) → All (Other k) u → All (Mine k) m → 0 < length m → before k (u ++ m ++ z) ≡ u
   unfolding before
   before-parts (x ∷ u) m z a b h = rw (is-other k (x .share) (a .0), before) (ap (λ l. x ∷ l) (before-parts u m z (a .1) b h))
   before-parts [] (x ∷ m) z a b h = rw (is-mine k x (b .0), before)
@@ -238,7 +238,7 @@ at-stretch k [] (y ∷ m) z a c e here = (m, here, refl)
 at-stretch k [] (y ∷ m) z a c e (past i) = let (r, j, f) = at-stretch k [] m z tt c e i in (r, past j, f)
 at-stretch k [] [] z a c e i = absurd (at-all (Other k) i c e)
 
-moved-append : (e : Dir) (p q : List Move) → moved e (p ++ q) ≡ moved e p + moved e q
+pub moved-append : (e : Dir) (p q : List Move) → moved e (p ++ q) ≡ moved e p + moved e q
 moved-append e p q = ap (steps e) (map-append (λ (x : Move). x .dir) p q) ∙ steps-append e (dirs p) (dirs q)
 
 -- a run that goes the way f along the direction of every move goes that way along each direction in which they go
