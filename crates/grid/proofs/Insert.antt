@@ -1,4 +1,4 @@
--- Insertion into a rising list: how it goes on from one line to the next, and that the last value may be inserted last.
+-- Insertion into a rising list: the place where a value goes, and that the last value may be inserted last.
 use mathlib.Core.Path.{_≡_, refl, sym, ap, ap₂, _∙_}
 use mathlib.Core.Bool.{Bool, true, false}
 use mathlib.Core.Logic.{⊎-elim}
@@ -17,14 +17,12 @@ use mathlib.Core.List.{
   Memᴰ·append-right,
   Memᴰ·cast,
 }
-use Prim.Native.Nat.{ℕ, suc, _≤_, _<_, min, max}
+use Prim.Native.Nat.{ℕ, zero, suc, _≤_, _<_}
 use native.Mathlib.Nat.{le-refl}
-use native.Mathlib.Decide.{decLe}
 use native.Mathlib.Omega.{arith}
 use lib.Dec.{ltb}
-use lib.ListN.{length}
+use lib.ListN.{length, getD, take, drop}
 use borrow.Author.Tests.{lt-ltb, le-ltb}
-use Rattle.network.specs.Grid.{Rising}
 use Rattle.network.specs.Hanan.{insert, distinct, distinct-rises}
 use Rattle.network.specs.Route.{Listed}
 use Rattle.network.proofs.Lists.{member-index, index-member}
@@ -48,40 +46,40 @@ insert-step v a l = go (ltb v a) (ltb a v)
     go false false = refl
 
 -- a value below the first goes in front
-pub insert-below : (v a : ℕ) (l : List ℕ) → v < a → insert v (a ∷ l) ≡ v ∷ a ∷ l
+insert-below : (v a : ℕ) (l : List ℕ) → v < a → insert v (a ∷ l) ≡ v ∷ a ∷ l
 insert-below v a l h = insert-step v a l ∙ ap (λ s. placed v a l s (ltb a v)) (lt-ltb v a h)
 
 -- a value that is the first is there already
-pub insert-at : (v a : ℕ) (l : List ℕ) → v ≡ a → insert v (a ∷ l) ≡ a ∷ l
+insert-at : (v a : ℕ) (l : List ℕ) → v ≡ a → insert v (a ∷ l) ≡ a ∷ l
 insert-at v a l e = insert-step v a l ∙ ap₂ (placed v a l) (le-ltb v a (omega arith)) (le-ltb a v (omega arith))
 
 -- a value above the first goes behind it
-pub insert-above : (v a : ℕ) (l : List ℕ) → a < v → insert v (a ∷ l) ≡ a ∷ insert v l
+insert-above : (v a : ℕ) (l : List ℕ) → a < v → insert v (a ∷ l) ≡ a ∷ insert v l
 insert-above v a l h = insert-step v a l ∙ ap₂ (placed v a l) (le-ltb v a (omega arith)) (lt-ltb a v h)
 
 -- into no list
-pub insert-none : (v : ℕ) → insert v [] ≡ v ∷ []
+insert-none : (v : ℕ) → insert v [] ≡ v ∷ []
 unfolding insert
 insert-none v = refl
 
--- what comes before a rising list goes in front
-pub insert-first : (a : ℕ) (l : List ℕ) → Rising (a ∷ l) → insert a l ≡ a ∷ l
-insert-first a [] r = insert-none a
-insert-first a (b ∷ l) r = insert-below a b l (r 0 (omega arith))
+-- the list with v at place k, and the others from there on behind it
+abbrev pub put : ℕ → ℕ → List ℕ → List ℕ
+put k v l = take k l ++ v ∷ drop k l
 
--- the lower of a value and the first line stays, and the higher is inserted into the rest
-pub insert-carry : (v a : ℕ) (l : List ℕ) → Rising (a ∷ l) → (v ≡ a → ⊥) → insert v (a ∷ l) ≡ min a v ∷ insert (max a v) l
-insert-carry v a l r n = go (decLe v a)
-  where
-    go : Dec (v ≤ a) → insert v (a ∷ l) ≡ min a v ∷ insert (max a v) l
-    go (yes h) =
-        let lo : min a v ≡ v = omega arith in
-        let hi : max a v ≡ a = omega arith in
-        rw (lo, hi) (insert-below v a l (omega arith) ∙ ap (λ k. v ∷ k) (sym (insert-first a l r)))
-    go (no h) =
-        let lo : min a v ≡ a = omega arith in
-        let hi : max a v ≡ v = omega arith in
-        rw (lo, hi) (insert-above v a l (omega arith))
+-- where the first k numbers are below v, and the next one is v, the list stays as it is
+pub insert-there : (k v : ℕ) (l : List ℕ) → ((i : ℕ) → i < k → getD l i 0 < v) → k < length l → getD l k 0 ≡ v → insert v l ≡ l
+insert-there k v [] h n e = absurd (omega arith)
+insert-there zero v (a ∷ l) h n e = insert-at v a l (sym e)
+insert-there (suc k) v (a ∷ l) h n e =
+    insert-above v a l (h 0 (omega arith)) ∙ ap (λ m. a ∷ m) (insert-there k v l (λ i o. h (suc i) (omega arith)) (omega arith) e)
+
+-- where the first k numbers are below v, and the next one, if there is one, is above it, v goes to place k
+pub insert-put : (k v : ℕ) (l : List ℕ) → ((i : ℕ) → i < k → getD l i 0 < v) → k ≤ length l → (k < length l → v < getD l k 0) → insert v l ≡ put k v l
+insert-put zero v [] h n o = insert-none v
+insert-put zero v (a ∷ l) h n o = insert-below v a l (o (omega arith))
+insert-put (suc k) v [] h n o = absurd (omega arith)
+insert-put (suc k) v (a ∷ l) h n o =
+    insert-above v a l (h 0 (omega arith)) ∙ ap (λ m. a ∷ m) (insert-put k v l (λ i p. h (suc i) (omega arith)) (omega arith) (λ p. o (omega arith)))
 
 -- at most one line more
 pub length-insert : (v : ℕ) (l : List ℕ) → length (insert v l) ≤ suc (length l)

@@ -1,7 +1,7 @@
 -- Laws of a job's lines, for the functions here and for callers.
 pub mod Tables
 pub mod Insert
-pub mod Carry
-pub mod Values
 pub mod Places
+pub mod Shift
+pub mod Values
 pub mod Hanan

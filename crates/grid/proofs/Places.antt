@@ -1,9 +1,9 @@
 -- The position of a line among rising lines is the number of lines below it; the edges between neighbouring lines have a length.
-use mathlib.Core.Path.{_≡_, refl, sym, ap, ap₂, _∙_}
+use mathlib.Core.Path.{_≡_, refl, sym, ap, ap₂, _∙_, subst}
 use mathlib.Core.Bool.{Bool, true, false, cond}
 use mathlib.Core.Logic.{_⊎_, inl, inr}
 use mathlib.Core.List.{List, [], _∷_}
-use Prim.Native.Nat.{ℕ, zero, suc, pred, _+_, _-_, _≤_, _<_, min}
+use Prim.Native.Nat.{ℕ, zero, suc, pred, _+_, _-_, _≤_, _<_}
 use native.Mathlib.Nat.{le-refl}
 use native.Mathlib.Numerals.{add-one}
 use native.Mathlib.Omega.{arith}
@@ -16,7 +16,7 @@ use Rattle.network.specs.Route.{Listed}
 use Rattle.network.specs.Graph.{below}
 use Rattle.network.proofs.Numbers.{order}
 use Rattle.network.proofs.Sums.{sum-append}
-use Rattle.network.proofs.Rising.{rising-lt, rising-le}
+use Rattle.network.proofs.Rising.{rising-le, index-le as index-order}
 use Rattle.grid.specs.Tables.{table, padded}
 use Rattle.grid.specs.declared.Axis.{Axis}
 use Rattle.grid.specs.Lines.{axisOf, RisingTo, indexOf, lengthAt}
@@ -69,22 +69,49 @@ index-le l n v = count-le (λ i. ltb (getD l i 0) v) n
 
 -- ---- what it means
 
+-- v has k lines before it: the first k lines are below v, and the next one, if there is one, is not
+pub record Parts (l : List ℕ) (n v k : ℕ) : Type 0 where
+  pub under : (i : ℕ) → i < k → getD l i 0 < v
+  pub next : k < n → v ≤ getD l k 0
+
 module _ (l : List ℕ) (r : Rising l) where
-  -- among the first m lines, those below line i are the first i
-  index-upto : (i m : ℕ) → i < length l → m ≤ length l → indexOf l m (getD l i 0) ≡ min m i
-  index-upto i zero h k = index-none l (getD l i 0) ∙ omega arith
-  index-upto i (suc m) h k = ap (λ n. indexOf l n (getD l i 0)) (sym (add-one m)) ∙ go (order i m) (index-upto i m h (omega arith))
+  -- where the lines rise, the lines below v are the first ones
+  pub index-parts : (n v : ℕ) → n ≤ length l → Parts l n v (indexOf l n v)
+  index-parts zero v h = record { under = λ i k. absurd (omega (arith, index-none l v)); next = λ k. absurd (omega arith) }
+  index-parts (suc n) v h =
+      subst (λ m. Parts l m v (indexOf l m v)) (add-one n) (go (order v (getD l n 0)) (order n (indexOf l n v)) (index-parts n v (omega arith)))
     where
-      go : (i ≤ m) ⊎ (m < i) → indexOf l m (getD l i 0) ≡ min m i → indexOf l (m + 1) (getD l i 0) ≡ min (suc m) i
-      go (inl p) e = index-still l m (getD l i 0) (rising-le l r i m p (omega arith)) ∙ omega arith
-      go (inr p) e = index-more l m (getD l i 0) (rising-lt l r m i p h) ∙ omega arith
+      go : (v ≤ getD l n 0) ⊎ (getD l n 0 < v) → (n ≤ indexOf l n v) ⊎ (indexOf l n v < n) → Parts l n v (indexOf l n v)
+          → Parts l (n + 1) v (indexOf l (n + 1) v)
+      go (inl o) (inl q) p =
+          let e : indexOf l n v ≡ n = omega (arith, index-le l n v) in
+          rw (index-still l n v o) (record { under = p .under; next = λ k. rw e o })
+      go (inl o) (inr q) p = rw (index-still l n v o) (record { under = p .under; next = λ k. p .next q })
+      go (inr o) (inl q) p =
+          let e : indexOf l n v ≡ n = omega (arith, index-le l n v) in
+          rw (index-more l n v o, e) (record { under = λ i k. below-all i k (order n i); next = λ k. absurd (omega arith) })
+        where
+          below-all : (i : ℕ) → i < n + 1 → (n ≤ i) ⊎ (i < n) → getD l i 0 < v
+          below-all i k (inl m) =
+              let e : i ≡ n = omega arith in
+              rw e o
+          below-all i k (inr m) = p .under i (omega arith)
+      go (inr o) (inr q) p = absurd (omega (arith, p .next q, rising-le l r (indexOf l n v) n (omega arith) (omega arith)))
+
+-- an array that holds lines counts as they do
+pub index-padded : (l : List ℕ) (v : ℕ) → indexOf (padded 64 l) (length l) v ≡ indexOf l (length l) v
+unfolding indexOf
+index-padded l v = count-same _ _ (length l) (λ k o. ap (λ x. ltb x v) (getD-padded 64 l k o))
 
 -- where v is line i, its position is i
 index-is : (l : List ℕ) → Rising l → (i : ℕ) → i < length l → indexOf (padded 64 l) (length l) (getD l i 0) ≡ i
-unfolding indexOf
 index-is l r i h =
-    count-same _ _ (length l) (λ k o. ap (λ x. ltb x (getD l i 0)) (getD-padded 64 l k o))
-    ∙ index-upto l r i (length l) h (le-refl (length l)) ∙ omega arith
+    let k = indexOf l (length l) (getD l i 0) in
+    index-padded l (getD l i 0) ∙ go k (order k i) (index-parts l r (length l) (getD l i 0) (le-refl (length l)))
+  where
+    go : (k : ℕ) → (k ≤ i) ⊎ (i < k) → Parts l (length l) (getD l i 0) k → k ≡ i
+    go k (inl o) p = omega (arith, index-order l r i k h (p .next (omega arith)))
+    go k (inr o) p = absurd (omega (arith, p .under i o))
 
 -- ---- an axis that holds rising lines
 

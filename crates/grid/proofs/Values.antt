@@ -1,16 +1,16 @@
 -- The values of an axis, run after run, and the runs that they come from.
 use mathlib.Core.Path.{_≡_, refl, sym, ap, _∙_, subst}
 use mathlib.Core.List.{List, [], _∷_, _++_, append-assoc}
-use Prim.Native.Nat.{ℕ, zero, suc, _+_, _≤_, _<_}
+use Prim.Native.Nat.{ℕ, zero, suc, _+_, _-_, _≤_, _<_}
 use native.Mathlib.Numerals.{add-one}
 use native.Mathlib.Omega.{arith}
-use lib.ListN.{length, getD, length-append}
+use lib.ListN.{length, getD, replicate, length-append}
+use lib.Seq.{take-at}
 use Rattle.network.specs.Grid.{Rising}
 use Rattle.network.specs.Hanan.{insert, distinct, distinct-rises}
 use Rattle.grid.specs.declared.Axis.{Axis}
 use Rattle.grid.specs.Lines.{values, axisOf, linesOf, Room}
 use Rattle.grid.proofs.Insert.{distinct-last, length-distinct}
-use Rattle.grid.proofs.Carry.{lines-held}
 
 module _ (first second : List ℕ) where
   -- no runs, no lines
@@ -38,6 +38,10 @@ module _ (first second : List ℕ) where
   few-lines n = omega (arith, length-distinct (values first second n), length-values n)
 
 -- ---- an axis that is built line by line
+
+-- the lines of an axis with the lines l are l
+lines-held : (l : List ℕ) → linesOf (axisOf l) ≡ l
+lines-held l = take-at l (replicate (64 - length l) 0) (length l) refl
 
 -- the axis with the lines of a rising list has room for one more
 pub room-for : (a : Axis) (l : List ℕ) → a ≡ axisOf l → Rising l → length l < 64 → Room a

@@ -23,29 +23,24 @@ pub fn most(a: u32, b: u32) -> u32
     if a < b { b } else { a }
 }
 
-// The axis with one line more, if it has none at v. Each line from there on is carried to the next place.
-fn with_line(a: Axis, v: u32) -> Axis
-    requires { ⌜ Room a ⌝ }
-    ensures { λ r. ⌜ r ≡ axisOf (insert v (linesOf a)) ⌝ }
+// Puts a line at v among the first count lines, unless it is one of them, and says how many there are then.
+fn add_line(lines: &mut [u32; 64], count: usize, v: u32) -> usize
+    requires { ⌜ Room (record { lines = now lines; count = count }) ⌝ }
+    ensures { λ r. ⌜ record { lines = now (lines .exit); count = r } ≡ axisOf (insert v (linesOf (record { lines = now (lines .entry); count = count }))) ⌝ }
 {
-    let mut lines = a.lines;
-    let count = a.count;
-    let mut w = v;
-    let mut i: usize = 0;
-    while i < count {
-        let x = lines[i];
-        if w == x {
-            return Axis { lines, count };
+    let at = position(&*lines, count, v);
+    if at < count {
+        if lines[at] == v {
+            return count;
         }
-        lines[i] = least(x, w);
-        w = most(x, w);
-        i += 1;
     }
-    lines[count] = w;
-    Axis {
-        lines,
-        count: count + 1,
+    let mut i = count;
+    while at < i {
+        lines[i] = lines[i - 1];
+        i -= 1;
     }
+    lines[at] = v;
+    count + 1
 }
 
 // The lines of the first n runs on one axis, of which the arrays hold the first and the second points' values.
@@ -53,24 +48,24 @@ pub fn axis_of(first: &[u32; 32], second: &[u32; 32], n: usize) -> Axis
     requires { ⌜ n ≤ 32 ⌝ }
     ensures { λ r. ⌜ (r ≡ axisOf (distinct (values (now (first .entry)) (now (second .entry)) n))) × (r .count ≤ 64) ⌝ }
 {
-    let mut a = Axis {
-        lines: [0u32; 64],
-        count: 0,
-    };
+    let mut lines = [0u32; 64];
+    let mut count: usize = 0;
     let mut i: usize = 0;
     while i < n {
-        a = with_line(with_line(a, first[i]), second[i]);
+        count = add_line(&mut lines, count, first[i]);
+        count = add_line(&mut lines, count, second[i]);
         i += 1;
     }
-    a
+    Axis { lines, count }
 }
 
 // How many of the first count lines are below v: the index of the line at v, where there is one.
+// The counter is as wide as the lines, so that the loop takes as many lines at a time as a vector has.
 pub fn position(lines: &[u32; 64], count: usize, v: u32) -> usize
     requires { ⌜ count ≤ 64 ⌝ }
     ensures { λ r. ⌜ (r ≡ indexOf (now (lines .entry)) count v) × (r ≤ count) ⌝ }
 {
-    let mut k: usize = 0;
+    let mut k: u32 = 0;
     let mut i: usize = 0;
     while i < count {
         if lines[i] < v {
@@ -78,7 +73,7 @@ pub fn position(lines: &[u32; 64], count: usize, v: u32) -> usize
         }
         i += 1;
     }
-    k
+    k as usize
 }
 
 // The lengths of the edges from each of the first count lines to the next.

@@ -20,6 +20,7 @@ use Rattle.job.specs.Parse.{Parsed, accepted, refused, stepOf, withFirst
 use Rattle.job.specs.Reading.{jobOf, readingOf}
 use Rattle.job.specs.Written.{noRun}
 use Rattle.job.proofs.Decoded.{record-says}
+use Rattle.job.proofs.Columns.{withRun, job-more}
 use Rattle.job.proofs.Steps.{taken}
 
 -- the run in a record
@@ -98,25 +99,22 @@ module _ (s : List ℕ) (number : ℕ) (found : Job) (at n last : ℕ) (h : SoFa
   before-more r e = rw (← h .place, e)
 
   -- there is room for one more run
-  pub so-far-room : (r : Run) → stepOf at n last (drop at s) ≡ Next r → found .count < 32
-  so-far-room r e =
-      let t = taken at n last (drop at s) (recordOf (drop at s)) r e in
-      omega (arith, t .below, ap (λ (j : Job). j .count) (h .runs), length-before s n)
+  pub so-far-room : (r : Run) → stepOf at n last (drop at s) ≡ Next r → n < 32
+  so-far-room r e = taken at n last (drop at s) (recordOf (drop at s)) r e .below
 
   -- after one more run
-  pub so-far-more : (found₁ : Job) (r : Run) → stepOf at n last (drop at s) ≡ Next r
-      → ((m : ℕ) (runs : List Run) → found ≡ jobOf m runs → found₁ ≡ jobOf m (runs ++ (r ∷ [])))
-      → SoFar s number found₁ (at + 19) (n + 1) (r .number)
-  so-far-more found₁ r e f =
+  pub so-far-more : (r : Run) → stepOf at n last (drop at s) ≡ Next r → SoFar s number (withRun found n r) (at + 19) (n + 1) (r .number)
+  so-far-more r e =
       let t = taken at n last (drop at s) (recordOf (drop at s)) r e in
       let says = rw (t .is) at (record-says (drop at s)) in
       let more = before-more r (t .is) in
+      let added = job-more found number n (runsBefore s n) r (h .runs) (length-before s n) (t .below) in
       rw add-one
       (record {
         most = t .below;
         place = omega (arith, h .place);
         within = omega (arith, says .1, length-drop 1 (drop at s), length-drop at s);
-        runs = rw more (f number (runsBefore s n) (h .runs));
+        runs = rw more (rw add-one at added);
         rest = rw (more, with-snoc, ← drop-drop 19 at s) (rw e at step-whole);
       })
 

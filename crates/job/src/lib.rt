@@ -1,6 +1,6 @@
 // Reads a job (document 01, "Job book"): one head, then the runs, then one end.
 ghost use mathlib.Core.Path.{_≡_};
-ghost use mathlib.Core.List.{List, [], _∷_, _++_};
+ghost use mathlib.Core.List.{List, []};
 ghost use Prim.Native.Nat.{ℕ, _+_, _<_, _≤_};
 ghost use lib.ListN.{length, drop};
 ghost use Rattle.job.specs.Fields.{word2, word4, biasedOf};
@@ -291,22 +291,6 @@ fn empty_job(number: u32) -> Job
     }
 }
 
-// The job with one more run.
-fn with_run(job: Job, run: Run) -> Job
-    requires { ⌜ job .count < 32 ⌝ }
-    ensures { λ r. ⌜ ((number : ℕ) (runs : List Run) → job ≡ jobOf number runs → r ≡ jobOf number (runs ++ (run ∷ []))) ⌝ }
-{
-    let mut next = job;
-    let k = job.count;
-    next.numbers[k] = run.number;
-    next.x1[k] = run.x1;
-    next.y1[k] = run.y1;
-    next.x2[k] = run.x2;
-    next.y2[k] = run.y2;
-    next.count = k + 1;
-    next
-}
-
 // The reading of a refusal.
 fn refusing(refusal: Refusal) -> Reading
     ensures { λ r. ⌜ r ≡ record { answer = Answer.Refused refusal; job = jobOf 0 [] } ⌝ }
@@ -333,7 +317,12 @@ pub fn read(job: &[u8]) -> Reading
     loop {
         match step_at(job, at, n, last) {
             Step::Next(run) => {
-                found = with_run(found, run);
+                found.numbers[n] = run.number;
+                found.x1[n] = run.x1;
+                found.y1[n] = run.y1;
+                found.x2[n] = run.x2;
+                found.y2[n] = run.y2;
+                found.count = n + 1;
                 at = at + 19;
                 n = n + 1;
                 last = run.number;

@@ -1,4 +1,4 @@
--- The invariant: the axis holds the distinct values of the runs passed.
+-- The invariant: the lines are the distinct values of the runs passed.
 use mathlib.Core.Path.{_≡_, sym, ap, _∙_}
 use Prim.Native.Nat.{ℕ, _≤_, _-_}
 use native.Mathlib.Omega.{arith}
@@ -12,40 +12,41 @@ use Rattle.grid.proofs.axis_of.Statement.{statement}
 use Rattle.grid.proofs.axis_of.Tie as tie
 
 abbrev Inv-loop : tie.InvT-loop
-Inv-loop first second n a₀ i₀ a i = (i ≤ n) × (a ≡ axisOf (distinct (values first second i)))
+Inv-loop first second n lines₀ count₀ i₀ lines count i =
+    (i ≤ n) × (_≡_ {A = Axis} (record { lines = lines; count = count }) (axisOf (distinct (values first second i))))
 
 abbrev μ-loop : tie.MeasureT-loop
-μ-loop first second n a₀ i₀ a i = n - i
+μ-loop first second n lines₀ count₀ i₀ lines count i = n - i
 
 loop-holds : tie.Need-loop-holds Inv-loop μ-loop
 loop-holds c = (omega arith, sym (ap axisOf (distinct-none _ _)))
 
-mul-with-line : tie.Need-mul-with-line Inv-loop μ-loop
-mul-with-line c = omega arith
+mul-add-line : tie.Need-mul-add-line Inv-loop μ-loop
+mul-add-line c = omega arith
 
-element-copy-out-with-line : tie.Need-element-copy-out-with-line Inv-loop μ-loop
-element-copy-out-with-line c = omega arith
+element-copy-out-add-line : tie.Need-element-copy-out-add-line Inv-loop μ-loop
+element-copy-out-add-line c = omega arith
 
-with-line-requires : tie.Need-with-line-requires Inv-loop μ-loop
-with-line-requires c κs =
-    let a = c .before .before .before .args in
-    let l = c .before .before .loop in
-    room-for (l .a) (distinct (values (a .first .now) (a .second .now) (l .i))) (l .inv .1) (distinct-rises (values (a .first .now) (a .second .now) (l .i)))
-    (omega (arith, few-lines (a .first .now) (a .second .now) (l .i)))
+add-line-requires : tie.Need-add-line-requires Inv-loop μ-loop
+add-line-requires c κs =
+    let a = c .before .before .before .before .args in
+    let l = c .before .before .before .loop in
+    let v = values (a .first .now) (a .second .now) (l .i) in
+    room-for _ (distinct v) (l .inv .1) (distinct-rises v) (omega (arith, few-lines (a .first .now) (a .second .now) (l .i)))
 
-mul-with-line-2 : tie.Need-mul-with-line-2 Inv-loop μ-loop
-mul-with-line-2 c = omega arith
+mul-add-line-2 : tie.Need-mul-add-line-2 Inv-loop μ-loop
+mul-add-line-2 c = omega arith
 
-element-copy-out-with-line-2 : tie.Need-element-copy-out-with-line-2 Inv-loop μ-loop
-element-copy-out-with-line-2 c = omega arith
+element-copy-out-add-line-2 : tie.Need-element-copy-out-add-line-2 Inv-loop μ-loop
+element-copy-out-add-line-2 c = omega arith
 
-with-line-requires-2 : tie.Need-with-line-requires-2 Inv-loop μ-loop
-with-line-requires-2 c κs =
-    let a = c .before .before .before .before .before .args in
-    let l = c .before .before .before .before .loop in
+add-line-requires-2 : tie.Need-add-line-requires-2 Inv-loop μ-loop
+add-line-requires-2 c κs =
+    let a = c .before .before .before .before .before .before .before .args in
+    let l = c .before .before .before .before .before .before .loop in
     let v = values (a .first .now) (a .second .now) (l .i) in
     let x = getD (a .first .now) (l .i) 0 in
-    room-for (c .before .with-line .result) (insert x (distinct v)) (line-more (l .a) _ (distinct v) x (l .inv .1) (c .before .with-line .ensures)) (insert-rising x v)
+    room-for _ (insert x (distinct v)) (line-more _ _ (distinct v) x (l .inv .1) (c .before .before .add-line .ensures)) (insert-rising x v)
     (omega (arith, few-lines (a .first .now) (a .second .now) (l .i), length-insert x (distinct v)))
 
 add-i : tie.Need-add-i Inv-loop μ-loop
@@ -56,14 +57,13 @@ loop-less c = omega arith
 
 loop-again : tie.Need-loop-again Inv-loop μ-loop
 loop-again c =
-    let a = c .before .before .before .before .before .before .args in
-    let l = c .before .before .before .before .before .loop in
+    let a = c .before .before .before .before .before .before .before .before .args in
+    let l = c .before .before .before .before .before .before .before .loop in
     let v = values (a .first .now) (a .second .now) (l .i) in
     let x = getD (a .first .now) (l .i) 0 in
     let y = getD (a .second .now) (l .i) 0 in (
       omega arith,
-      line-more (c .before .before .with-line .result) _ (insert x (distinct v)) y
-          (line-more (l .a) _ (distinct v) x (l .inv .1) (c .before .before .with-line .ensures)) (c .with-line2 .ensures)
+      line-more _ _ (insert x (distinct v)) y (line-more _ _ (distinct v) x (l .inv .1) (c .before .before .before .add-line .ensures)) (c .add-line2 .ensures)
           ∙ ap axisOf (sym (distinct-more (a .first .now) (a .second .now) (l .i))),
     )
 
@@ -83,12 +83,12 @@ axis-of-spec =
     Inv-loop
     μ-loop
     loop-holds
-    mul-with-line
-    element-copy-out-with-line
-    with-line-requires
-    mul-with-line-2
-    element-copy-out-with-line-2
-    with-line-requires-2
+    mul-add-line
+    element-copy-out-add-line
+    add-line-requires
+    mul-add-line-2
+    element-copy-out-add-line-2
+    add-line-requires-2
     add-i
     loop-less
     loop-again

@@ -48,9 +48,40 @@ step-at-requires c κs = search needs
 enum-known-run : tie.Need-enum-known-run Inv-loop μ-loop
 enum-known-run c = search needs
 
-with-run-requires : tie.Need-with-run-requires Inv-loop μ-loop
-with-run-requires c κs =
+-- there is room for the run, at each of the five stores
+element-write-found : tie.Need-element-write-found Inv-loop μ-loop
+element-write-found c =
     so-far-room _ _ _ _ _ _ (c .before .before .before .before .loop .inv) _ (sym (c .before .before .before .step-at .ensures) ∙ c .before .run .given .1)
+
+mul-found : tie.Need-mul-found Inv-loop μ-loop
+mul-found c = omega (arith, element-write-found c)
+
+mul-found-2 : tie.Need-mul-found-2 Inv-loop μ-loop
+mul-found-2 c = mul-found c
+
+element-write-found-2 : tie.Need-element-write-found-2 Inv-loop μ-loop
+element-write-found-2 c = element-write-found c
+
+mul-found-3 : tie.Need-mul-found-3 Inv-loop μ-loop
+mul-found-3 c = mul-found c
+
+element-write-found-3 : tie.Need-element-write-found-3 Inv-loop μ-loop
+element-write-found-3 c = element-write-found c
+
+mul-found-4 : tie.Need-mul-found-4 Inv-loop μ-loop
+mul-found-4 c = mul-found c
+
+element-write-found-4 : tie.Need-element-write-found-4 Inv-loop μ-loop
+element-write-found-4 c = element-write-found c
+
+mul-found-5 : tie.Need-mul-found-5 Inv-loop μ-loop
+mul-found-5 c = mul-found c
+
+element-write-found-5 : tie.Need-element-write-found-5 Inv-loop μ-loop
+element-write-found-5 c = element-write-found c
+
+add-found : tie.Need-add-found Inv-loop μ-loop
+add-found c = search needs
 
 add-at : tie.Need-add-at Inv-loop μ-loop
 add-at c = search needs
@@ -59,15 +90,11 @@ add-n : tie.Need-add-n Inv-loop μ-loop
 add-n c = search needs
 
 loop-less : tie.Need-loop-less Inv-loop μ-loop
-loop-less c =
-    let e = sym (c .before .before .before .before .step-at .ensures) ∙ c .before .before .run .given .1 in
-    let t = so-far-more _ _ _ _ _ _ (c .before .before .before .before .before .loop .inv) _ _ e (c .with-run .ensures) in
-    omega (arith, t .most)
+loop-less c = omega (arith, element-write-found c)
 
 loop-again : tie.Need-loop-again Inv-loop μ-loop
 loop-again c =
-    let e = sym (c .before .before .before .before .step-at .ensures) ∙ c .before .before .run .given .1 in
-    so-far-more _ _ _ _ _ _ (c .before .before .before .before .before .loop .inv) _ _ e (c .with-run .ensures)
+    so-far-more _ _ _ _ _ _ (c .before .before .before .before .loop .inv) _ (sym (c .before .before .before .step-at .ensures) ∙ c .before .run .given .1)
 
 enum-told : tie.Need-enum-told Inv-loop μ-loop
 enum-told c = search needs
@@ -101,7 +128,17 @@ read-spec =
     loop-holds
     step-at-requires
     enum-known-run
-    with-run-requires
+    mul-found
+    element-write-found
+    mul-found-2
+    element-write-found-2
+    mul-found-3
+    element-write-found-3
+    mul-found-4
+    element-write-found-4
+    mul-found-5
+    element-write-found-5
+    add-found
     add-at
     add-n
     loop-less
