@@ -31,7 +31,7 @@ use Rattle.grid.proofs.Places.{Parts, index-le, index-padded, index-par
 length-put : (i v : ℕ) (m : List ℕ) → i ≤ length m → length (put i v m) ≡ suc (length m)
 length-put i v m h = length-append (take i m) (v ∷ drop i m) ∙ omega (arith, length-take i m, length-drop i m)
 
--- a store of v at place i of the array t makes the list m with v at place i.
+-- a store of v at place i of the array t makes the list m with v at place i
 pub record Shifted (m : List ℕ) (v : ℕ) (t : List ℕ) (i : ℕ) : Type 0 where
   pub within : i ≤ length m
   pub whole : set t i v ≡ put i v m

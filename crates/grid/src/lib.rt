@@ -1,6 +1,6 @@
 // The columns and rows of a job, and the position of a coordinate in them.
 ghost use mathlib.Core.Path.{_≡_};
-ghost use Prim.Native.Nat.{ℕ, pred, _≤_, min, max};
+ghost use Prim.Native.Nat.{pred, _≤_, min, max};
 ghost use Rattle.network.specs.Hanan.{insert, distinct};
 ghost use Rattle.grid.specs.Tables.{table, padded};
 ghost use Rattle.grid.specs.Lines.{values, axisOf, linesOf, Room, RisingTo, indexOf, lengthAt};
@@ -28,7 +28,7 @@ fn add_line(lines: &mut [u32; 64], count: usize, v: u32) -> usize
     requires { ⌜ Room (record { lines = now lines; count = count }) ⌝ }
     ensures { λ r. ⌜ record { lines = now (lines .exit); count = r } ≡ axisOf (insert v (linesOf (record { lines = now (lines .entry); count = count }))) ⌝ }
 {
-    let at = position(&*lines, count, v);
+    let at = position(&*lines, count, v) as usize;
     if at < count {
         if lines[at] == v {
             return count;
@@ -61,7 +61,7 @@ pub fn axis_of(first: &[u32; 32], second: &[u32; 32], n: usize) -> Axis
 
 // How many of the first count lines are below v: the index of the line at v, where there is one.
 // The counter is as wide as the lines, so that the loop takes as many lines at a time as a vector has.
-pub fn position(lines: &[u32; 64], count: usize, v: u32) -> usize
+pub fn position(lines: &[u32; 64], count: usize, v: u32) -> u32
     requires { ⌜ count ≤ 64 ⌝ }
     ensures { λ r. ⌜ (r ≡ indexOf (now (lines .entry)) count v) × (r ≤ count) ⌝ }
 {
@@ -73,7 +73,7 @@ pub fn position(lines: &[u32; 64], count: usize, v: u32) -> usize
         }
         i += 1;
     }
-    k as usize
+    k
 }
 
 // The lengths of the edges from each of the first count lines to the next.

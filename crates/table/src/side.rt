@@ -32,19 +32,42 @@ fn most(a: usize, b: usize) -> usize
     if a < b { b } else { a }
 }
 
-// The positions of n values among the first count lines.
-fn positions(lines: &[u32; 64], count: usize, values: &[u32; 32], n: usize) -> [u8; 32]
-    requires { ⌜ (count ≤ 64) × (n ≤ 32) ⌝ }
-    ensures { λ r. ⌜ PlacesOf (now (lines .entry)) count (now (values .entry)) n r ⌝ }
+// The first n words as bytes.
+fn narrow(words: &[u32; 32], n: usize) -> [u8; 32]
+    requires { ⌜ (n ≤ 32) × ((k : ℕ) → k < n → getD (now words) k 0 < 256) ⌝ }
+    ensures { λ r. ⌜ ((k : ℕ) → k < n → getD r k 0 ≡ getD (now (words .entry)) k 0) ⌝ }
 {
     let mut t = [0u8; 32];
     let mut k: usize = 0;
     while k < n {
-        let p = grid::position(lines, count, values[k]);
-        t[k] = (p % 256) as u8;
+        t[k] = (words[k] % 256) as u8;
         k += 1;
     }
     t
+}
+
+// How many of the first count lines are below each of n values.
+fn counts_below(lines: &[u32; 64], count: usize, values: &[u32; 32], n: usize) -> [u32; 32]
+    requires { ⌜ (count ≤ 64) × (n ≤ 32) ⌝ }
+    ensures { λ r. ⌜ PlacesOf (now (lines .entry)) count (now (values .entry)) n r ⌝ }
+{
+    let mut t = [0u32; 32];
+    let mut k: usize = 0;
+    while k < n {
+        t[k] = grid::position(lines, count, values[k]);
+        k += 1;
+    }
+    t
+}
+
+// The positions of n values among the first count lines. They are counted first and narrowed then: a count that is narrowed at once is made in bytes,
+// and takes longer.
+fn positions(lines: &[u32; 64], count: usize, values: &[u32; 32], n: usize) -> [u8; 32]
+    requires { ⌜ (count ≤ 64) × (n ≤ 32) ⌝ }
+    ensures { λ r. ⌜ PlacesOf (now (lines .entry)) count (now (values .entry)) n r ⌝ }
+{
+    let t = counts_below(lines, count, values, n);
+    narrow(&t, n)
 }
 
 // The first n runs, of which the arrays hold the first and the second points' values on the axis.

@@ -18,6 +18,9 @@ abbrev μ-loop : tie.MeasureT-loop
 position-requires : tie.Need-position-requires Inv-loop μ-loop
 position-requires c κs = omega arith
 
+cast-at : tie.Need-cast-at Inv-loop μ-loop
+cast-at c = omega arith
+
 mul-if2 : tie.Need-mul-if2 Inv-loop μ-loop
 mul-if2 c = omega arith
 
@@ -84,6 +87,7 @@ add-line-spec =
     Inv-loop
     μ-loop
     position-requires
+    cast-at
     mul-if2
     element-copy-out-if2
     returns

@@ -44,12 +44,6 @@ loop-again c =
     (λ w. (omega arith, omega (arith, w, index-still (a .lines .now) (l .i) (a .v) (w .0 .left))))
     (c .if1 .came)
 
-cast-result : tie.Need-cast-result Inv-loop μ-loop
-cast-result c =
-    let a = c .before .before .args in
-    let l = c .before .loop in
-    omega (arith, index-le (a .lines .now) (l .i) (a .v))
-
 returns : tie.Need-returns Inv-loop μ-loop
 returns c =
     let a = c .before .before .args in
@@ -71,5 +65,4 @@ position-spec =
     add-i
     loop-less
     loop-again
-    cast-result
     returns)

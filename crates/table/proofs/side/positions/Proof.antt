@@ -1,77 +1,22 @@
--- Before each turn the positions of the values before k are stored.
-use Prim.Native.Nat.{_≤_, _-_, _%_}
-use mathlib.Core.Path.{_≡_, refl, _∙_}
-use native.Mathlib.Nat.{mod-eq-of-lt}
-use lib.ListN.{length, getD, length-set}
-use Rattle.grid.specs.Lines.{indexOf}
-use Rattle.table.specs.Side.{PlacesOf}
-use Rattle.table.proofs.Lines.{set-next}
-use borrow.Author.Needs.{needs}
+-- The counts fit in bytes.
+use mathlib.Core.Path.{_∙_}
 use native.Mathlib.Omega.{arith}
+use borrow.Author.Needs.{needs}
+use lib.ListN.{getD}
+use Rattle.grid.proofs.Places.{index-le}
 use Rattle.table.proofs.side.positions.Statement.{statement}
 use Rattle.table.proofs.side.positions.Tie as tie
 
-abbrev Inv-loop : tie.InvT-loop
-Inv-loop lines count values n t₀ k₀ t k = (k ≤ n) × (length t ≡ 32) × PlacesOf lines count values k t
+counts-below-requires : tie.Need-counts-below-requires
+counts-below-requires c κs = search needs
 
-abbrev μ-loop : tie.MeasureT-loop
-μ-loop lines count values n t₀ k₀ t k = n - k
+narrow-requires : tie.Need-narrow-requires
+narrow-requires c κs =
+    let s = c .before .before in
+    (s .pre .1, λ k h. omega (arith, s .pre .0, c .before .counts-below .ensures k h, index-le (s .args .lines .now) (s .args .count) (getD (s .args .values .now) k 0)))
 
-loop-holds : tie.Need-loop-holds Inv-loop μ-loop
-loop-holds c = (search needs, refl, λ j h. absurd (omega arith))
-
-mul-position : tie.Need-mul-position Inv-loop μ-loop
-mul-position c = search needs
-
-element-copy-out-position : tie.Need-element-copy-out-position Inv-loop μ-loop
-element-copy-out-position c = search needs
-
-position-requires : tie.Need-position-requires Inv-loop μ-loop
-position-requires c κs = search needs
-
-cast-t : tie.Need-cast-t Inv-loop μ-loop
-cast-t c = search needs
-
-array-write-t : tie.Need-array-write-t Inv-loop μ-loop
-array-write-t c = search needs
-
-add-k : tie.Need-add-k Inv-loop μ-loop
-add-k c = search needs
-
-loop-less : tie.Need-loop-less Inv-loop μ-loop
-loop-less c = search needs
-
-loop-again : tie.Need-loop-again Inv-loop μ-loop
-loop-again c =
-    let l = c .before .before .before in
-    let s = l .before in
-    let p = c .position in
-    let e : p .result % 256 ≡ p .result = mod-eq-of-lt (omega (arith, p .ensures .1, s .pre .0)) in (
-      search needs,
-      length-set (l .loop .t) (l .loop .k) (p .result % 256) ∙ l .loop .inv .1,
-      set-next (l .loop .t) (l .loop .k) (p .result % 256) 0 (λ j. indexOf (s .args .lines .now) (s .args .count) (getD (s .args .values .now) j 0))
-          (omega (arith, l .loop .inv .1, s .pre .1)) (l .loop .inv .2) (e ∙ p .ensures .0),
-    )
-
-returns : tie.Need-returns Inv-loop μ-loop
-returns c =
-    let l = c .before .loop in
-    let e : l .k ≡ c .before .before .args .n = omega arith in
-    λ j h. l .inv .2 j (omega arith)
+returns : tie.Need-returns
+returns c = λ k h. c .narrow .ensures k h ∙ c .before .before .counts-below .ensures k h
 
 pub positions-spec : {M : Type 1} → statement M
-positions-spec =
-    tie.close
-    (tie.spec
-    Inv-loop
-    μ-loop
-    loop-holds
-    mul-position
-    element-copy-out-position
-    position-requires
-    cast-t
-    array-write-t
-    add-k
-    loop-less
-    loop-again
-    returns)
+positions-spec = tie.close (tie.spec counts-below-requires narrow-requires returns)
