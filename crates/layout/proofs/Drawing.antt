@@ -2,7 +2,7 @@
 use mathlib.Core.Path.{_≡_, refl, sym, ap, ap₂, _∙_}
 use mathlib.Core.Bool.{Bool, true, false}
 use mathlib.Core.List.{List, [], map}
-use Prim.Native.Nat.{ℕ, _-_, _≤_, _<_}
+use Prim.Native.Nat.{ℕ, _≤_, _<_}
 use native.Mathlib.Omega.{arith}
 use borrow.Author.Tests.{leb-true, leb-false}
 use lib.Dec.{leb}
@@ -30,6 +30,8 @@ use Rattle.table.specs.declared.side.Side.{Side}
 use Rattle.table.specs.Side.{firstOf, secondOf}
 use Rattle.table.proofs.Star.{firsts, seconds, Surveyed, viewOf, boxOf}
 use Rattle.table.proofs.Survey.{surveyed-centred}
+use Rattle.layout.specs.declared.Points.{Points}
+use Rattle.layout.specs.Points.{pointsOf}
 use Rattle.layout.specs.Laid.{unlaid, Layable, AllLayable, Laid, AllLaid}
 use Rattle.layout.proofs.Lists.{all-taken, mapped-at}
 use Rattle.layout.proofs.Laying.{leads-apart}
@@ -68,22 +70,22 @@ lane-upto p q = go (leb p q) refl
 
 -- ---- one route
 
-module _ (xs ys : Side) (c : ℕ) (moves : List Move) (k : ℕ) (r : Route) (S : Layable xs ys c moves k) (l : Laid xs ys c moves k r) where
+module _ (a e : Points) (c : ℕ) (moves : List Move) (k : ℕ) (r : Route) (S : Layable a e c moves k) (l : Laid a e c moves k r) where
   -- it passes the lines between its run's points
-  columns-are : columnsOf r ≡ laneTo (firstOf xs k) (secondOf xs k)
-  columns-are = λ i. lane (l .rightward i) (l .column i) ((ap (steps hor) (l .goes) ∙ leads-apart xs ys c moves k S hor) i)
+  columns-are : columnsOf r ≡ laneTo (e .x .first) (e .x .second)
+  columns-are = λ i. lane (l .rightward i) (l .column i) ((ap (steps hor) (l .goes) ∙ leads-apart a e c moves k S hor) i)
 
-  rows-are : rowsOf r ≡ laneTo (firstOf ys k) (secondOf ys k)
-  rows-are = λ i. lane (l .upward i) (l .row i) ((ap (steps ver) (l .goes) ∙ leads-apart xs ys c moves k S ver) i)
+  rows-are : rowsOf r ≡ laneTo (e .y .first) (e .y .second)
+  rows-are = λ i. lane (l .upward i) (l .row i) ((ap (steps ver) (l .goes) ∙ leads-apart a e c moves k S ver) i)
 
   -- so it is on any grid that has them
-  pub laid-on-grid : (g : Grid) → (firstOf xs k < length (g .columns)) × (secondOf xs k < length (g .columns))
-      → (firstOf ys k < length (g .rows)) × (secondOf ys k < length (g .rows)) → OnGrid g r
+  pub laid-on-grid : (g : Grid) → (e .x .first < length (g .columns)) × (e .x .second < length (g .columns))
+      → (e .y .first < length (g .rows)) × (e .y .second < length (g .rows)) → OnGrid g r
   laid-on-grid g x y =
       record {
         held = omega (arith, l .held);
-        columns-fit = rw columns-are (lane-fits (g .columns) (firstOf xs k) (secondOf xs k) (x .0) (x .1));
-        rows-fit = rw rows-are (lane-fits (g .rows) (firstOf ys k) (secondOf ys k) (y .0) (y .1));
+        columns-fit = rw columns-are (lane-fits (g .columns) (e .x .first) (e .x .second) (x .0) (x .1));
+        rows-fit = rw rows-are (lane-fits (g .rows) (e .y .first) (e .y .second) (y .0) (y .1));
       }
 
   -- and on the grid of indexes
@@ -97,7 +99,7 @@ module _ (xs ys : Side) (c : ℕ) (moves : List Move) (k : ℕ) (r : Route) (S :
 pub all-numbered : (xs ys : Side) (n c : ℕ) (moves : List Move) (routes : List Route) → n ≤ length routes → AllLayable xs ys n c moves → AllLaid xs ys n c moves routes
     → All (OnGrid numbered) (take n routes)
 all-numbered xs ys n c moves routes h fit all =
-    all-taken (OnGrid numbered) n routes unlaid h (λ k i. laid-numbered xs ys c moves k (getD routes k unlaid) (fit .layable k i) (all .laid k i))
+    all-taken (OnGrid numbered) n routes unlaid h (λ k i. laid-numbered (pointsOf xs ys c) (pointsOf xs ys k) c moves k (getD routes k unlaid) (fit .layable k i) (all .laid k i))
 
 -- ---- on the grid of the runs
 
@@ -107,13 +109,14 @@ vertex-at g p i x = point-path (x .at-line hor) (x .at-line ver)
 
 module _ (g : Grid) (runs : List Run) (xs ys : Side) (c leaves : ℕ) (S : Surveyed g runs xs ys c leaves) (moves : List Move) where
   -- a route that is laid has a frame of its run
-  pub laid-frame : (k : ℕ) → k < length runs → (r : Route) → Layable xs ys c moves k → Laid xs ys c moves k r → Frame g (runAt runs k) (columnsOf r) (rowsOf r)
+  pub laid-frame : (k : ℕ) → k < length runs → (r : Route) → Layable (pointsOf xs ys c) (pointsOf xs ys k) c moves k
+      → Laid (pointsOf xs ys c) (pointsOf xs ys k) c moves k r → Frame g (runAt runs k) (columnsOf r) (rowsOf r)
   laid-frame k h r a l =
       let p = S .first-at k h in
       let q = S .second-at k h in
-      let on = laid-on-grid xs ys c moves k r a l g (p .fits hor, q .fits hor) (p .fits ver, q .fits ver) in
-      let X = columns-are xs ys c moves k r a l in
-      let Y = rows-are xs ys c moves k r a l in
+      let on = laid-on-grid (pointsOf xs ys c) (pointsOf xs ys k) c moves k r a l g (p .fits hor, q .fits hor) (p .fits ver, q .fits ver) in
+      let X = columns-are (pointsOf xs ys c) (pointsOf xs ys k) c moves k r a l in
+      let Y = rows-are (pointsOf xs ys c) (pointsOf xs ys k) c moves k r a l in
       record {
         columns-fit = on .columns-fit;
         rows-fit = on .rows-fit;
@@ -123,7 +126,8 @@ module _ (g : Grid) (runs : List Run) (xs ys : Side) (c leaves : ℕ) (S : Surve
       }
 
   -- and is a Manhattan route of it
-  pub laid-manhattan : (k : ℕ) → k < length runs → (r : Route) → Layable xs ys c moves k → Laid xs ys c moves k r → Manhattan g (runAt runs k) (drawnOf g r)
+  pub laid-manhattan : (k : ℕ) → k < length runs → (r : Route) → Layable (pointsOf xs ys c) (pointsOf xs ys k) c moves k
+      → Laid (pointsOf xs ys c) (pointsOf xs ys k) c moves k r → Manhattan g (runAt runs k) (drawnOf g r)
   laid-manhattan k h r a l =
       from-steps g (runAt runs k) (columnsOf r) (rowsOf r) (laid-frame k h r a l) (stepsOf r)
       (record { all-columns = sym (lane-extent (r .right) (r .start .column) _); all-rows = sym (lane-extent (r .up) (r .start .row) _) })

@@ -15,18 +15,17 @@ use Rattle.sharing.specs.Trace.{Move}
 use Rattle.sharing.specs.Walk.{dirs, moved}
 use Rattle.sharing.specs.Leaf.{before, stretch, forward, turnIf, via}
 use Rattle.sharing.specs.View.{index}
-use Rattle.table.specs.declared.side.Side.{Side}
 use Rattle.table.specs.declared.trace.Trace.{Trace}
-use Rattle.table.specs.Side.{firstOf, secondOf}
 use Rattle.table.specs.Walk.{movesOf}
 use Rattle.table.proofs.Lines.{gap-lt}
 use Rattle.route.specs.declared.Route.{Route}
 use Rattle.route.specs.declared.Vertex.{Vertex}
 use Rattle.route.specs.Route.{dirOf, stepsOf}
 use Rattle.route.proofs.Steps.{steps-all}
+use Rattle.layout.specs.declared.Points.{Points}
 use Rattle.layout.specs.declared.Stretch.{Stretch}
 use Rattle.layout.specs.declared.Way.{Way}
-use Rattle.layout.specs.Sides.{OnLines, goesBack, numberOf, axis, firsts, seconds, box64}
+use Rattle.layout.specs.Points.{OnLines, goesBack, numberOf, ends, box64}
 use Rattle.layout.specs.Stretch.{Found}
 use Rattle.layout.specs.Way.{wayOf, passesForth, legOf, waySteps}
 use Rattle.layout.specs.Laid.{Longer, begun, stepsBy, Layable, Stretched, Laid}
@@ -43,31 +42,34 @@ gap-index true p q h k = omega arith
 
 -- ---- the steps of any run
 
-module _ (xs ys : Side) (c : ℕ) (M : List Move) (k : ℕ) (S : Layable xs ys c M k) where
+module _ (a e : Points) (c : ℕ) (M : List Move) (k : ℕ) (S : Layable a e c M k) where
+  -- its steps
+  abbrev pub stepsIn : List Dir
+  stepsIn = stepsBy (box64 a a) (box64 a e) c M k
+
   -- its points lie on lines of both axes
-  on-lines : (d : Dir) → OnLines (axis xs ys d) k
+  on-lines : (d : Dir) → OnLines (ends e d)
   on-lines hor = S .in-columns
   on-lines ver = S .in-rows
 
   -- they lead as far as its points are apart
-  pub leads-apart : (d : Dir) → steps d (stepsBy (box64 xs ys c) c M k) ≡ gap (firsts xs ys k d) (seconds xs ys k d)
-  leads-apart d = S .leads d ∙ gap-index (goesBack (axis xs ys d) c) _ _ (on-lines d .0) (on-lines d .1)
+  pub leads-apart : (d : Dir) → steps d stepsIn ≡ gap (ends e d .first) (ends e d .second)
+  leads-apart d = S .leads d ∙ gap-index (goesBack (ends a d)) _ _ (on-lines d .0) (on-lines d .1)
 
   -- and are few
-  pub steps-few : length (stepsBy (box64 xs ys c) c M k) ≤ 126
+  pub steps-few : length stepsIn ≤ 126
   steps-few =
-      let few : (d : Dir) → gap (firsts xs ys k d) (seconds xs ys k d) ≤ 63
+      let few : (d : Dir) → gap (ends e d .first) (ends e d .second) ≤ 63
       = λ d. le-of-suc-le-suc (gap-lt 64 _ _ (on-lines d .0) (on-lines d .1)) in
-      omega (arith, steps-all (stepsBy (box64 xs ys c) c M k), leads-apart hor, leads-apart ver, few hor, few ver)
+      omega (arith, steps-all stepsIn, leads-apart hor, leads-apart ver, few hor, few ver)
 
   -- the route that has grown by them is laid
-  pub laid-grown : (n : ℕ) (l : List Dir) (r : Route) → Longer (begun (replicate 128 0) 0 xs ys k) n l r → n ≤ 126 → l ≡ stepsBy (box64 xs ys c) c M k
-      → Laid xs ys c M k r
+  pub laid-grown : (n : ℕ) (l : List Dir) (r : Route) → Longer (begun (replicate 128 0) 0 e) n l r → n ≤ 126 → l ≡ stepsIn → Laid a e c M k r
   unfolding stepsOf
-  laid-grown n l r p h e =
+  laid-grown n l r p h q =
       record {
         held = omega (arith, p .more);
-        goes = p .goes ∙ e;
+        goes = p .goes ∙ q;
         column = ap (λ (v : Vertex). v .column) (p .same-start);
         row = ap (λ (v : Vertex). v .row) (p .same-start);
         rightward = p .same-right;
@@ -76,20 +78,20 @@ module _ (xs ys : Side) (c : ℕ) (M : List Move) (k : ℕ) (S : Layable xs ys c
 
 -- ---- the centre
 
-module _ (xs ys : Side) (c : ℕ) (moves : Trace) (S : Layable xs ys c (movesOf moves) c) where
+module _ (a : Points) (c : ℕ) (moves : Trace) (S : Layable a a c (movesOf moves) c) where
   -- its moves are few
   pub centre-few : moves .count ≤ 126
   centre-few =
-      let few : length (dirs (movesOf moves)) ≤ 126 = rw (eq-eqb c c refl) at (steps-few xs ys c (movesOf moves) c S) in
+      let few : length (dirs (movesOf moves)) ≤ 126 = rw (eq-eqb c c refl) at (steps-few a a c (movesOf moves) c S) in
       omega (arith, length-map (movesOf moves) (λ (x : Move). x .dir), moves-length (moves .steps) (moves .shares) (moves .count))
 
   -- its route is its moves
-  pub laid-centre : length (moves .steps) ≡ 128 → (k : ℕ) → k ≡ c → Laid xs ys c (movesOf moves) k (begun (moves .steps) (moves .count) xs ys k)
+  pub laid-centre : length (moves .steps) ≡ 128 → (e : Points) (k : ℕ) → k ≡ c → Laid a e c (movesOf moves) k (begun (moves .steps) (moves .count) e)
   unfolding stepsOf
-  laid-centre full k e =
+  laid-centre full e k h =
       record {
         held = centre-few;
-        goes = rw (eq-eqb k c e) (sym (dirs-moves (moves .steps) (moves .shares) (moves .count) (omega (arith, centre-few))));
+        goes = rw (eq-eqb k c h) (sym (dirs-moves (moves .steps) (moves .shares) (moves .count) (omega (arith, centre-few))));
         column = refl;
         row = refl;
         rightward = refl;
@@ -104,67 +106,67 @@ no-moves [] e = refl
 no-moves (x ∷ l) e = absurd (omega arith)
 
 -- its route is one leg
-pub laid-plain : (xs ys : Side) (c : ℕ) (M : List Move) (k : ℕ) (s : Stretch) → Layable xs ys c M k → (k ≡ c → ⊥) → Found k M s → s .size ≡ 0 → (a b : ℕ)
-    → a ≡ gap (firstOf xs k) (secondOf xs k) → b ≡ gap (firstOf ys k) (secondOf ys k) → (r : Route)
-    → Longer (begun (replicate 128 0) 0 xs ys k) (a + b) (legOf a b) r → Laid xs ys c M k r
+pub laid-plain : (a e : Points) (c : ℕ) (M : List Move) (k : ℕ) (s : Stretch) → Layable a e c M k → (k ≡ c → ⊥) → Found k M s → s .size ≡ 0 → (i j : ℕ)
+    → i ≡ gap (e .x .first) (e .x .second) → j ≡ gap (e .y .first) (e .y .second) → (r : Route)
+    → Longer (begun (replicate 128 0) 0 e) (i + j) (legOf i j) r → Laid a e c M k r
 unfolding via
-laid-plain xs ys c M k s S leaf found none a b ea eb r p =
-    let apart : (d : Dir) → gap (firsts xs ys k d) (seconds xs ys k d) ≡ gap (box64 xs ys c k .first d) (box64 xs ys c k .second d)
-    = λ d. sym (leads-apart xs ys c M k S d) ∙ S .leads d in
-    let e : legOf a b ≡ stepsBy (box64 xs ys c) c M k
-    = ap₂ legOf (ea ∙ apart hor) (eb ∙ apart ver) ∙ rw (ne-eqb k c leaf, no-moves (stretch k M) (sym (found .size-is) ∙ none)) in
-    laid-grown xs ys c M k S (a + b) (legOf a b) r p
-    (omega (arith, ea, eb, leads-apart xs ys c M k S hor, leads-apart xs ys c M k S ver, steps-all (stepsBy (box64 xs ys c) c M k), steps-few xs ys c M k S)) e
+laid-plain a e c M k s S other found none i j ei ej r p =
+    let apart : (d : Dir) → gap (ends e d .first) (ends e d .second) ≡ gap (box64 a e .first d) (box64 a e .second d)
+    = λ d. sym (leads-apart a e c M k S d) ∙ S .leads d in
+    let q : legOf i j ≡ stepsIn a e c M k S
+    = ap₂ legOf (ei ∙ apart hor) (ej ∙ apart ver) ∙ rw (ne-eqb k c other, no-moves (stretch k M) (sym (found .size-is) ∙ none)) in
+    laid-grown a e c M k S (i + j) (legOf i j) r p
+    (omega (arith, ei, ej, leads-apart a e c M k S hor, leads-apart a e c M k S ver, steps-all (stepsIn a e c M k S), steps-few a e c M k S)) q
 
 -- ---- a leaf that shares
 
-module _ (xs ys : Side) (c : ℕ) (moves : Trace) (k : ℕ) (s : Stretch) (full : length (moves .steps) ≡ 128) (h : Stretched xs ys c (movesOf moves) k s) where
+module _ (a e : Points) (c : ℕ) (moves : Trace) (k : ℕ) (s : Stretch) (full : length (moves .steps) ≡ 128) (h : Stretched a e c (movesOf moves) k s) where
   -- its ways, and its stretch
   abbrev pub wayAcross : Way
-  wayAcross = wayOf (numberOf xs c (firstOf xs k)) (numberOf xs c (secondOf xs k)) (numberOf xs c (firstOf xs c) + s .across) (s .wide)
+  wayAcross = wayOf (numberOf (a .x) (e .x .first)) (numberOf (a .x) (e .x .second)) (numberOf (a .x) (a .x .first) + s .across) (s .wide)
 
   abbrev pub wayUp : Way
-  wayUp = wayOf (numberOf ys c (firstOf ys k)) (numberOf ys c (secondOf ys k)) (numberOf ys c (firstOf ys c) + (s .from - s .across)) (s .size - s .wide)
+  wayUp = wayOf (numberOf (a .y) (e .y .first)) (numberOf (a .y) (e .y .second)) (numberOf (a .y) (a .y .first) + (s .from - s .across)) (s .size - s .wide)
 
   abbrev pub part : List Dir
   part = map dirOf (slice (s .from) (s .from + s .size) (moves .steps))
 
   -- the centre's moves are in the table
   count-fits : moves .count ≤ length (moves .steps)
-  count-fits = omega (arith, centre-few xs ys c moves (h .centre-layable))
+  count-fits = omega (arith, centre-few a c moves (h .centre-layable))
 
   -- its steps by its ways
-  pub leaf-steps : stepsBy (box64 xs ys c) c (movesOf moves) k
+  pub leaf-steps : stepsBy (box64 a a) (box64 a e) c (movesOf moves) k
       ≡ waySteps wayAcross wayUp (passesForth (getD (moves .steps) (s .from) 0) (wayAcross .forward) (wayUp .forward)) part
   leaf-steps =
       let M = movesOf moves in
-      let b = box64 xs ys c k in
-      let near : Dir → ℕ = λ d. box64 xs ys c c .first d + moved d (before k M) in
+      let b = box64 a e in
+      let near : Dir → ℕ = λ d. box64 a a .first d + moved d (before k M) in
       let v = getD (moves .steps) (s .from) 0 in
-      let t = h .layable .together (h .leaf) in
+      let t = h .layable .together (h .other) in
       let upto = s .from + s .size in
       let fits : upto ≤ length (moves .steps) = omega (arith, count-fits, stretch-fits moves k s count-fits t (h .found) (h .some)) in
       let is-part : dirs (stretch k M) ≡ part = stretch-part moves k s count-fits t (h .found) (h .some) in
       let begins : part ≡ dirOf v ∷ map dirOf (slice (suc (s .from)) upto (moves .steps))
       = ap (map dirOf) (slice-cons (s .from) upto (moves .steps) 0 (omega (arith, h .some)) fits) in
-      let steps-are : stepsBy (box64 xs ys c) c M k ≡ via b near (dirs (stretch k M)) = rw (ne-eqb k c (h .leaf)) in
+      let steps-are : stepsBy (box64 a a) b c M k ≡ via b near (dirs (stretch k M)) = rw (ne-eqb k c (h .other)) in
       let across = sym (h .found .across-is (h .some)) in
       let wide = sym (h .found .wide-is) in
       let up = before-high moves k s count-fits t (h .found) (h .some) in
       let high = stretch-high moves k s count-fits t (h .found) (h .some) in
       steps-are ∙ via-ways b near (dirOf v) (map dirOf (slice (suc (s .from)) upto (moves .steps))) (dirs (stretch k M)) (is-part ∙ begins)
       ∙ λ i. waySteps
-      (wayOf (b .first hor) (b .second hor) (numberOf xs c (firstOf xs c) + across i) (wide i))
-      (wayOf (b .first ver) (b .second ver) (numberOf ys c (firstOf ys c) + up i) (high i))
+      (wayOf (b .first hor) (b .second hor) (numberOf (a .x) (a .x .first) + across i) (wide i))
+      (wayOf (b .first ver) (b .second ver) (numberOf (a .y) (a .y .first) + up i) (high i))
       (way-forth b v i)
       (is-part i)
 
   -- the numbers that the code computes
   pub leaf-few : (s .across ≤ s .from) × (s .wide ≤ s .size) × (s .from + s .size ≤ 126)
   leaf-few =
-      let t = h .layable .together (h .leaf) in
-      let (a, b) = across-few moves k s count-fits t (h .found) (h .some) in
-      (a, b, omega (arith, stretch-fits moves k s count-fits t (h .found) (h .some), centre-few xs ys c moves (h .centre-layable)))
+      let t = h .layable .together (h .other) in
+      let (i, j) = across-few moves k s count-fits t (h .found) (h .some) in
+      (i, j, omega (arith, stretch-fits moves k s count-fits t (h .found) (h .some), centre-few a c moves (h .centre-layable)))
 
   module _ (x y : Way) (ex : x ≡ wayAcross) (ey : y ≡ wayUp) where
     -- which way it passes the stretch, by the ways that the code has found
@@ -172,7 +174,7 @@ module _ (xs ys : Side) (c : ℕ) (moves : Trace) (k : ℕ) (s : Stretch) (full 
     forthOf = passesForth (getD (moves .steps) (s .from) 0) (x .forward) (y .forward)
 
     -- the steps by those ways are its steps
-    found-steps : waySteps x y forthOf part ≡ stepsBy (box64 xs ys c) c (movesOf moves) k
+    found-steps : waySteps x y forthOf part ≡ stepsBy (box64 a a) (box64 a e) c (movesOf moves) k
     found-steps =
         (λ i. waySteps (ex i) (ey i) (passesForth (getD (moves .steps) (s .from) 0) (ex i .forward) (ey i .forward)) part) ∙ sym leaf-steps
 
@@ -182,14 +184,14 @@ module _ (xs ys : Side) (c : ℕ) (moves : Trace) (k : ℕ) (s : Stretch) (full 
         let M = movesOf moves in
         let size : s .size ≡ length part
         = h .found .size-is ∙ sym (length-map (stretch k M) (λ (x : Move). x .dir))
-        ∙ ap length (stretch-part moves k s count-fits (h .layable .together (h .leaf)) (h .found) (h .some)) in
-        omega (arith, ways-length x y forthOf part, ap length found-steps, steps-few xs ys c M k (h .layable))
+        ∙ ap length (stretch-part moves k s count-fits (h .layable .together (h .other)) (h .found) (h .some)) in
+        omega (arith, ways-length x y forthOf part, ap length found-steps, steps-few a e c M k (h .layable))
 
     -- a leg, the stretch and a leg
-    pub laid-leaf : (p q r : Route) → Longer (begun (replicate 128 0) 0 xs ys k) (x .before + y .before) (legOf (x .before) (y .before)) p
+    pub laid-leaf : (p q r : Route) → Longer (begun (replicate 128 0) 0 e) (x .before + y .before) (legOf (x .before) (y .before)) p
         → Longer p (s .from + s .size - s .from) (turnIf forthOf part) q → Longer q (x .after + y .after) (legOf (x .after) (y .after)) r
-        → Laid xs ys c (movesOf moves) k r
-    laid-leaf p q r a b d =
-        let o = begun (replicate 128 0) 0 xs ys k in
-        let g = longer-more o _ _ q _ _ r (longer-more o _ _ p _ _ q a b) d in
-        laid-grown xs ys c (movesOf moves) k (h .layable) _ _ r g (omega (arith, leaf-room)) found-steps
+        → Laid a e c (movesOf moves) k r
+    laid-leaf p q r i j d =
+        let o = begun (replicate 128 0) 0 e in
+        let g = longer-more o _ _ q _ _ r (longer-more o _ _ p _ _ q i j) d in
+        laid-grown a e c (movesOf moves) k (h .layable) _ _ r g (omega (arith, leaf-room)) found-steps

@@ -15,9 +15,9 @@ use Rattle.sharing.specs.Leaf.{before, stretch, via}
 use Rattle.route.specs.declared.Route.{Route}
 use Rattle.route.specs.Route.{stepsOf}
 use Rattle.table.specs.declared.side.Side.{Side}
-use Rattle.table.specs.Side.{firstOf, secondOf}
+use Rattle.layout.specs.declared.Points.{Points}
 use Rattle.layout.specs.declared.Stretch.{Stretch}
-use Rattle.layout.specs.Sides.{OnLines, box64}
+use Rattle.layout.specs.Points.{pointsOf, OnLines, box64}
 use Rattle.layout.specs.Stretch.{Found, Together}
 
 -- s is the route r with n steps more, the steps l
@@ -28,58 +28,57 @@ pub record Longer (r : Route) (n : ℕ) (l : List Dir) (s : Route) : Type 0 wher
   pub more : s .count ≡ r .count + n
   pub goes : stepsOf s ≡ stepsOf r ++ l
 
--- the route of run k with the first n of some steps
-abbrev pub begun : List ℕ → ℕ → Side → Side → ℕ → Route
-begun steps n xs ys k =
+-- the route between a run's points with the first n of some steps
+abbrev pub begun : List ℕ → ℕ → Points → Route
+begun steps n run =
     record {
       steps = steps;
       count = n;
-      start = record { column = firstOf xs k; row = firstOf ys k };
-      right = leb (firstOf xs k) (secondOf xs k);
-      up = leb (firstOf ys k) (secondOf ys k);
+      start = record { column = run .x .first; row = run .y .first };
+      right = leb (run .x .first) (run .x .second);
+      up = leb (run .y .first) (run .y .second);
     }
 
 -- the route of no run
 abbrev pub unlaid : Route
 unlaid = record { steps = replicate 128 0; count = 0; start = record { column = 0; row = 0 }; right = true; up = true }
 
--- the steps of run k in a star of centre c: `stepsOf` of sharing, where every other run is a leaf
-abbrev pub stepsBy : (ℕ → Box) → ℕ → List Move → ℕ → List Dir
-stepsBy box c moves k =
-    cond (eqb k c) (dirs moves) (via (box k) (λ d. box c .first d + moved d (before k moves)) (dirs (stretch k moves)))
+-- the steps of run k in a star of centre c, by their boxes: `stepsOf` of sharing, where every other run is a leaf
+abbrev pub stepsBy : (centre run : Box) → ℕ → List Move → ℕ → List Dir
+stepsBy centre run c moves k =
+    cond (eqb k c) (dirs moves) (via run (λ d. centre .first d + moved d (before k moves)) (dirs (stretch k moves)))
 
 -- Run k can be laid: by the centre's moves its steps lead from its first point to its second, and the moves that are shared with it are consecutive.
-pub record Layable (xs ys : Side) (c : ℕ) (moves : List Move) (k : ℕ) : Type 0 where
-  pub listed : k < 32
-  pub in-columns : OnLines xs k
-  pub in-rows : OnLines ys k
-  pub leads : (d : Dir) → steps d (stepsBy (box64 xs ys c) c moves k) ≡ gap (box64 xs ys c k .first d) (box64 xs ys c k .second d)
+pub record Layable (centre run : Points) (c : ℕ) (moves : List Move) (k : ℕ) : Type 0 where
+  pub in-columns : OnLines (run .x)
+  pub in-rows : OnLines (run .y)
+  pub leads : (d : Dir) → steps d (stepsBy (box64 centre centre) (box64 centre run) c moves k) ≡ gap (box64 centre run .first d) (box64 centre run .second d)
   pub together : (k ≡ c → ⊥) → Together k moves
 
 -- so can n runs, of which c is the centre
 pub record AllLayable (xs ys : Side) (n c : ℕ) (moves : List Move) : Type 0 where
   pub few : n ≤ 32
   pub centre : c < n
-  pub layable : (k : ℕ) → k < n → Layable xs ys c moves k
+  pub layable : (k : ℕ) → k < n → Layable (pointsOf xs ys c) (pointsOf xs ys k) c moves k
 
 -- run k is a leaf that shares moves with the centre, and s says where they stand
-pub record Stretched (xs ys : Side) (c : ℕ) (moves : List Move) (k : ℕ) (s : Stretch) : Type 0 where
-  pub centre-layable : Layable xs ys c moves c
-  pub layable : Layable xs ys c moves k
-  pub leaf : k ≡ c → ⊥
+pub record Stretched (centre leaf : Points) (c : ℕ) (moves : List Move) (k : ℕ) (s : Stretch) : Type 0 where
+  pub centre-layable : Layable centre centre c moves c
+  pub layable : Layable centre leaf c moves k
+  pub other : k ≡ c → ⊥
   pub found : Found k moves s
   pub some : 0 < s .size
 
 -- r is the route of run k
-pub record Laid (xs ys : Side) (c : ℕ) (moves : List Move) (k : ℕ) (r : Route) : Type 0 where
+pub record Laid (centre run : Points) (c : ℕ) (moves : List Move) (k : ℕ) (r : Route) : Type 0 where
   pub held : r .count ≤ 126
-  pub goes : stepsOf r ≡ stepsBy (box64 xs ys c) c moves k
-  pub column : r .start .column ≡ firstOf xs k
-  pub row : r .start .row ≡ firstOf ys k
-  pub rightward : r .right ≡ leb (firstOf xs k) (secondOf xs k)
-  pub upward : r .up ≡ leb (firstOf ys k) (secondOf ys k)
+  pub goes : stepsOf r ≡ stepsBy (box64 centre centre) (box64 centre run) c moves k
+  pub column : r .start .column ≡ run .x .first
+  pub row : r .start .row ≡ run .y .first
+  pub rightward : r .right ≡ leb (run .x .first) (run .x .second)
+  pub upward : r .up ≡ leb (run .y .first) (run .y .second)
 
 -- the routes of the first n runs, and nothing behind them
 pub record AllLaid (xs ys : Side) (n c : ℕ) (moves : List Move) (routes : List Route) : Type 0 where
-  pub laid : (k : ℕ) → k < n → Laid xs ys c moves k (getD routes k unlaid)
+  pub laid : (k : ℕ) → k < n → Laid (pointsOf xs ys c) (pointsOf xs ys k) c moves k (getD routes k unlaid)
   pub rest : (k : ℕ) → n ≤ k → getD routes k unlaid ≡ unlaid

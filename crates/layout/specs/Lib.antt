@@ -1,5 +1,5 @@
 -- The routes of all runs, from the centre's moves: crate `sharing` says what a leaf's steps are, these say how the code holds them.
-pub mod Sides
+pub mod Points
 pub mod Stretch
 pub mod Way
 pub mod Laid

@@ -15,9 +15,8 @@ ghost use Rattle.network.specs.Plane.{gap};
 ghost use Rattle.sharing.specs.View.{index};
 ghost use Rattle.sharing.specs.Leaf.{turnIf};
 ghost use Rattle.route.specs.Route.{dirOf};
-ghost use Rattle.table.specs.Side.{firstOf, secondOf};
 ghost use Rattle.table.specs.Walk.{movesOf};
-ghost use Rattle.layout.specs.Sides.{OnLines, numberOf};
+ghost use Rattle.layout.specs.Points.{OnLines, numberOf};
 ghost use Rattle.layout.specs.Stretch.{alongRow, nothing, grown, Found};
 ghost use Rattle.layout.specs.Way.{wayOf, passesForth, legOf};
 ghost use Rattle.layout.specs.Laid.{Longer, begun, Layable, Stretched, AllLayable, Laid, AllLaid};
@@ -29,6 +28,18 @@ pub struct Stretch {
     pub size: usize,
     pub across: usize,
     pub wide: usize,
+}
+
+// The points of a run on one axis, by the indexes of their lines.
+pub struct Ends {
+    pub first: u8,
+    pub second: u8,
+}
+
+// The points of a run on both axes.
+pub struct Points {
+    pub x: Ends,
+    pub y: Ends,
 }
 
 // A leaf's way along one axis: how many steps lead to its stretch, how many lead on from it, and if it goes as the centre does.
@@ -211,81 +222,104 @@ fn way_by(p: usize, q: usize, near: usize, n: usize) -> Way
     }
 }
 
-// The way of leaf k along one axis, by a stretch of n lines before which the centre passes so many.
-fn way_of(s: Side, centre: usize, k: usize, passed: usize, n: usize) -> Way
-    requires { ⌜ (centre < 32) × (k < 32) × OnLines s centre × OnLines s k × (passed ≤ 128) × (n ≤ 128) ⌝ }
-    ensures { λ w. ⌜ w ≡ wayOf (numberOf s centre (firstOf s k)) (numberOf s centre (secondOf s k)) (numberOf s centre (firstOf s centre) + passed) n ⌝ }
+// The way of a leaf along one axis, by a stretch of n lines before which the centre passes so many.
+fn way_of(centre: Ends, leaf: Ends, passed: usize, n: usize) -> Way
+    requires { ⌜ OnLines centre × OnLines leaf × (passed ≤ 128) × (n ≤ 128) ⌝ }
+    ensures { λ w. ⌜ w ≡ wayOf (numberOf centre (leaf .first)) (numberOf centre (leaf .second)) (numberOf centre (centre .first) + passed) n ⌝ }
 {
-    let flip = s.second[centre] < s.first[centre];
-    let near = number(flip, s.first[centre]) + passed;
-    let p = number(flip, s.first[k]);
-    let q = number(flip, s.second[k]);
+    let flip = centre.second < centre.first;
+    let near = number(flip, centre.first) + passed;
+    let p = number(flip, leaf.first);
+    let q = number(flip, leaf.second);
     way_by(p, q, near, n)
 }
 
 // ---- the routes
 
-// The route of run k with the first n of some steps.
-fn begin(steps: [u8; 128], n: usize, xs: Side, ys: Side, k: usize) -> Route
-    requires { ⌜ k < 32 ⌝ }
-    ensures { λ r. ⌜ r ≡ begun steps n xs ys k ⌝ }
+// The points (x1, y1) and (x2, y2).
+fn both_points(x1: u8, y1: u8, x2: u8, y2: u8) -> Points
+    ensures { λ r. ⌜ r ≡ record { x = record { first = x1; second = x2 }; y = record { first = y1; second = y2 } } ⌝ }
 {
+    Points {
+        x: Ends {
+            first: x1,
+            second: x2,
+        },
+        y: Ends {
+            first: y1,
+            second: y2,
+        },
+    }
+}
+
+// The route between a run's points with the first n of some steps.
+fn begin(steps: [u8; 128], n: usize, run: Points) -> Route
+    ensures { λ r. ⌜ r ≡ begun steps n run ⌝ }
+{
+    let x = run.x;
+    let y = run.y;
     Route {
         steps,
         count: n,
         start: Vertex {
-            column: wide(xs.first[k]),
-            row: wide(ys.first[k]),
+            column: wide(x.first),
+            row: wide(y.first),
         },
-        right: xs.first[k] <= xs.second[k],
-        up: ys.first[k] <= ys.second[k],
+        right: x.first <= x.second,
+        up: y.first <= y.second,
     }
 }
 
 // The route of a leaf by way of the stretch that it shares with the centre.
-fn leaf_route(xs: Side, ys: Side, centre: usize, moves: Trace, s: Stretch, k: usize) -> Route
-    requires { ⌜ Stretched xs ys centre (movesOf moves) k s ⌝ }
-    ensures { λ r. ⌜ Laid xs ys centre (movesOf moves) k r ⌝ }
+fn leaf_route(centre: Points, leaf: Points, moves: Trace, s: Stretch) -> Route
+    requires { ⌜ ((c : ℕ) × (k : ℕ) × Stretched centre leaf c (movesOf moves) k s) ⌝ }
+    ensures { λ r. ⌜ ((c k : ℕ) → Stretched centre leaf c (movesOf moves) k s → Laid centre leaf c (movesOf moves) k r) ⌝ }
 {
-    let x = way_of(xs, centre, k, s.across, s.wide);
-    let y = way_of(ys, centre, k, s.from - s.across, s.size - s.wide);
+    let x = way_of(centre.x, leaf.x, s.across, s.wide);
+    let y = way_of(centre.y, leaf.y, s.from - s.across, s.size - s.wide);
     let from = s.from;
     let steps = moves.steps;
-    let r = begin([0u8; 128], 0, xs, ys, k);
+    let r = begin([0u8; 128], 0, leaf);
     let r = leg(r, x.before, y.before);
     let r = along(r, steps, from, from + s.size, x.forward, y.forward);
     leg(r, x.after, y.after)
 }
 
-// How many lines run k passes along an axis.
-fn extent(s: Side, k: usize) -> usize
-    requires { ⌜ (k < 32) × OnLines s k ⌝ }
-    ensures { λ r. ⌜ (r ≡ gap (firstOf s k) (secondOf s k)) × (r ≤ 63) ⌝ }
+// How many lines a run passes along an axis.
+fn extent(run: Ends) -> usize
+    requires { ⌜ OnLines run ⌝ }
+    ensures { λ r. ⌜ (r ≡ gap (run .first) (run .second)) × (r ≤ 63) ⌝ }
 {
-    gap(wide(s.first[k]), wide(s.second[k]))
+    gap(wide(run.first), wide(run.second))
 }
 
-// The route of run k. A leaf that shares nothing goes along the row, then the column.
-fn route_of(xs: Side, ys: Side, centre: usize, moves: Trace, s: Stretch, k: usize) -> Route
-    requires { ⌜ Layable xs ys centre (movesOf moves) centre × Layable xs ys centre (movesOf moves) k × Found k (movesOf moves) s ⌝ }
-    ensures { λ r. ⌜ Laid xs ys centre (movesOf moves) k r ⌝ }
+// The route of run k, with the index c of the centre. A leaf that shares nothing goes along the row, then the column.
+fn route_of(centre: Points, run: Points, c: usize, k: usize, moves: Trace, s: Stretch) -> Route
+    requires { ⌜ Layable centre centre c (movesOf moves) c × Layable centre run c (movesOf moves) k × Found k (movesOf moves) s ⌝ }
+    ensures { λ r. ⌜ Laid centre run c (movesOf moves) k r ⌝ }
 {
-    if k == centre {
+    if k == c {
         let steps = moves.steps;
-        return begin(steps, moves.count, xs, ys, k);
+        return begin(steps, moves.count, run);
     }
     if s.size == 0 {
-        let r = begin([0u8; 128], 0, xs, ys, k);
-        return leg(r, extent(xs, k), extent(ys, k));
+        let r = begin([0u8; 128], 0, run);
+        return leg(r, extent(run.x), extent(run.y));
     }
-    leaf_route(xs, ys, centre, moves, s, k)
+    leaf_route(centre, run, moves, s)
 }
 
-// The routes of the first n runs.
+// The routes of the first n runs. The points of a run are looked up here: handed on, the sides would be copied for each run.
 pub fn routes(xs: Side, ys: Side, n: usize, centre: usize, moves: Trace) -> [Route; 32]
     requires { ⌜ AllLayable xs ys n centre (movesOf moves) ⌝ }
     ensures { λ r. ⌜ AllLaid xs ys n centre (movesOf moves) r ⌝ }
 {
+    let middle = both_points(
+        xs.first[centre],
+        ys.first[centre],
+        xs.second[centre],
+        ys.second[centre],
+    );
     let found = stretches(moves);
     let mut t = [Route {
         steps: [0u8; 128],
@@ -296,8 +330,9 @@ pub fn routes(xs: Side, ys: Side, n: usize, centre: usize, moves: Trace) -> [Rou
     }; 32];
     let mut k: usize = 0;
     while k < n {
+        let run = both_points(xs.first[k], ys.first[k], xs.second[k], ys.second[k]);
         let s = found[k];
-        t[k] = route_of(xs, ys, centre, moves, s, k);
+        t[k] = route_of(middle, run, centre, k, moves, s);
         k += 1;
     }
     t

@@ -1,12 +1,11 @@
 -- From the table and its walk to routes that save the most: what the stages of `lay` promise, put together.
-use mathlib.Core.Path.{_≡_, refl, sym, ap, _∙_, subst}
-use mathlib.Core.List.{List, [], _∷_, map}
-use Prim.Native.Nat.{ℕ, zero, suc, _*_, _≤_, _<_}
+use mathlib.Core.Path.{_≡_, sym, _∙_, subst}
+use mathlib.Core.List.{List}
+use Prim.Native.Nat.{ℕ, _*_, _≤_, _<_}
 use native.Mathlib.Nat.{mul-le-mul}
 use native.Mathlib.Omega.{arith}
-use lib.ListN.{length, getD, take}
+use lib.ListN.{length, getD}
 use lib.Seq.{length-take-le}
-use Rattle.network.specs.Lists.{All}
 use Rattle.network.specs.Plane.{Run}
 use Rattle.network.specs.Hanan.{hanan}
 use Rattle.network.specs.Steps.{hor, ver}
@@ -14,22 +13,21 @@ use Rattle.sharing.specs.Table.{Table}
 use Rattle.sharing.specs.Star.{Centred}
 use Rattle.table.specs.declared.side.Side.{Side}
 use Rattle.table.specs.declared.frame.Group.{Group}
-use Rattle.table.specs.declared.trace.Trace.{Trace}
 use Rattle.table.specs.Side.{firstOf, secondOf, Placed}
 use Rattle.table.specs.Frame.{Grouped}
 use Rattle.table.specs.Rule.{tableOf, Ruled, figureOf, Beyond}
 use Rattle.table.specs.Rule as rule
-use Rattle.table.specs.Walk.{movesOf, walked}
+use Rattle.table.specs.Walk.{walked}
 use Rattle.table.proofs.Lines.{gap-lt}
-use Rattle.table.proofs.Star.{firsts, seconds, viewOf, boxOf, group-fit}
+use Rattle.table.proofs.Star.{viewOf, boxOf, group-fit}
 use Rattle.table.proofs.Survey.{surveyed-centred, star-exact, star-figure, star-traced}
 use Rattle.route.specs.declared.Route.{Route}
 use Rattle.route.specs.Route.{OnGrid}
+use Rattle.layout.specs.Points.{pointsOf}
 use Rattle.layout.specs.Laid.{unlaid, AllLayable, AllLaid}
 use Rattle.layout.proofs.Lists.{all-taken}
 use Rattle.layout.proofs.Fitting.{traced-layable}
 use Rattle.layout.proofs.Drawing.{laid-on-grid, laid-best}
-use Rattle.planner.specs.declared.star.Layout.{Layout}
 use Rattle.planner.specs.Stages.{StarSurveyed, LaidOut}
 
 module _ (runs : List Run) (xs ys : Side) (n c leaves : ℕ) (L : StarSurveyed runs xs ys n c leaves) where
@@ -102,7 +100,7 @@ module _ (runs : List Run) (xs ys : Side) (n c leaves : ℕ) (L : StarSurveyed r
             best = rw (e ∙ star-figure (hanan runs) runs xs ys c leaves (L .surveyed) centred g G′ words R)
                 (laid-best (hanan runs) runs xs ys c leaves (L .surveyed) (walked g words) (L .few-lines) (in-list c (L .listed)) (L .star) T exact traced routes size all);
             on-grid = all-taken (OnGrid (hanan runs)) (length runs) routes unlaid size (λ k h.
-                laid-on-grid xs ys c (walked g words) k (getD routes k unlaid) (walk-fits .layable k (omega (arith, L .count))) (all .laid k h) (hanan runs)
+                laid-on-grid (pointsOf xs ys c) (pointsOf xs ys k) c (walked g words) k (getD routes k unlaid) (walk-fits .layable k (omega (arith, L .count))) (all .laid k h) (hanan runs)
                 (L .surveyed .first-at k h .fits hor, L .surveyed .second-at k h .fits hor) (L .surveyed .first-at k h .fits ver, L .surveyed .second-at k h .fits ver));
             full = length-take-le (length runs) routes size;
           }

@@ -7,14 +7,8 @@ use Rattle.table.proofs.Lines.{gap-lt}
 use Rattle.layout.proofs.extent.Statement.{statement}
 use Rattle.layout.proofs.extent.Tie as tie
 
-element-copy-out-wide : tie.Need-element-copy-out-wide
-element-copy-out-wide c = search needs
-
 wide-requires : tie.Need-wide-requires
 wide-requires c κs = search needs
-
-element-copy-out-wide-2 : tie.Need-element-copy-out-wide-2
-element-copy-out-wide-2 c = search needs
 
 wide-requires-2 : tie.Need-wide-requires-2
 wide-requires-2 c κs = search needs
@@ -24,8 +18,8 @@ gap-requires c κs = search needs
 
 returns : tie.Need-returns
 returns c =
-    let d = c .before .before .before in
-    let o = d .before .before .pre .1 in
+    let d = c .before .before in
+    let o = d .before .pre in
     let e : c .gap .result ≡ gap _ _ = c .gap .ensures ∙ ap₂ gap (d .wide .ensures) (c .before .wide2 .ensures) in
     (e, omega (arith, e, gap-lt 64 _ _ (o .0) (o .1)))
 
@@ -33,9 +27,7 @@ pub extent-spec : {M : Type 1} → statement M
 extent-spec =
     tie.close
     (tie.spec
-    element-copy-out-wide
     wide-requires
-    element-copy-out-wide-2
     wide-requires-2
     gap-requires
     returns)

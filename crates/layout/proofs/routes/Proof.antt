@@ -4,7 +4,10 @@ use Prim.Native.Nat.{ℕ, _-_, _≤_, _<_}
 use native.Mathlib.Omega.{arith}
 use borrow.Author.Needs.{needs}
 use lib.ListN.{length, getD, length-set}
+use Rattle.route.specs.declared.Route.{Route}
 use Rattle.table.specs.Walk.{movesOf}
+use Rattle.layout.specs.declared.Points.{Points}
+use Rattle.layout.specs.Points.{pointsOf}
 use Rattle.layout.specs.Laid.{unlaid, Laid}
 use Rattle.layout.proofs.Finding.{AllFound}
 use Rattle.layout.proofs.Lists.{getD-nothing, set-next, set-rest}
@@ -13,56 +16,97 @@ use Rattle.layout.proofs.routes.Statement.{statement}
 use Rattle.layout.proofs.routes.Tie as tie
 
 abbrev Inv-loop : tie.InvT-loop
-Inv-loop xs ys n centre moves found t₀ k₀ t k =
+Inv-loop n centre moves xs ys middle found t₀ k₀ t k =
     (k ≤ n) × (length t ≡ 32) × (length found ≡ 32) × AllFound (movesOf moves) found
-    × ((j : ℕ) → j < k → Laid xs ys centre (movesOf moves) j (getD t j unlaid))
+    × ((j : ℕ) → j < k → Laid (pointsOf xs ys centre) (pointsOf xs ys j) centre (movesOf moves) j (getD t j unlaid))
     × ((j : ℕ) → k ≤ j → getD t j unlaid ≡ unlaid)
 
 abbrev μ-loop : tie.MeasureT-loop
-μ-loop xs ys n centre moves found t₀ k₀ t k = n - k
+μ-loop n centre moves xs ys middle found t₀ k₀ t k = n - k
+
+element-copy-out-both-points : tie.Need-element-copy-out-both-points Inv-loop μ-loop
+element-copy-out-both-points c = omega (arith, c .pre .centre, c .pre .few)
+
+element-copy-out-both-points-2 : tie.Need-element-copy-out-both-points-2 Inv-loop μ-loop
+element-copy-out-both-points-2 c = omega (arith, c .before .pre .centre, c .before .pre .few)
+
+element-copy-out-both-points-3 : tie.Need-element-copy-out-both-points-3 Inv-loop μ-loop
+element-copy-out-both-points-3 c = omega (arith, c .before .before .pre .centre, c .before .before .pre .few)
+
+element-copy-out-both-points-4 : tie.Need-element-copy-out-both-points-4 Inv-loop μ-loop
+element-copy-out-both-points-4 c = omega (arith, c .before .before .before .pre .centre, c .before .before .before .pre .few)
+
+both-points-requires : tie.Need-both-points-requires Inv-loop μ-loop
+both-points-requires c κs = search needs
 
 stretches-requires : tie.Need-stretches-requires Inv-loop μ-loop
 stretches-requires c κs =
-    let p = c .pre in
-    omega (arith, centre-few _ _ _ (c .args .moves) (p .layable _ (p .centre)))
+    let o = c .before .before .before .before .before in
+    omega (arith, centre-few _ _ (o .args .moves) (o .pre .layable _ (o .pre .centre)))
 
 loop-holds : tie.Need-loop-holds Inv-loop μ-loop
 loop-holds c = (search needs, search needs, search needs, c .stretches .ensures, λ j h. absurd (omega arith), λ j h. getD-nothing unlaid 32 j)
 
+element-copy-out-both-points-5 : tie.Need-element-copy-out-both-points-5 Inv-loop μ-loop
+element-copy-out-both-points-5 c = omega (arith, c .before .before .before .before .before .before .before .before .pre .few)
+
+element-copy-out-both-points-6 : tie.Need-element-copy-out-both-points-6 Inv-loop μ-loop
+element-copy-out-both-points-6 c = omega (arith, c .before .before .before .before .before .before .before .before .before .pre .few)
+
+element-copy-out-both-points-7 : tie.Need-element-copy-out-both-points-7 Inv-loop μ-loop
+element-copy-out-both-points-7 c = omega (arith, c .before .before .before .before .before .before .before .before .before .before .pre .few)
+
+element-copy-out-both-points-8 : tie.Need-element-copy-out-both-points-8 Inv-loop μ-loop
+element-copy-out-both-points-8 c = omega (arith, c .before .before .before .before .before .before .before .before .before .before .before .pre .few)
+
+both-points-requires-2 : tie.Need-both-points-requires-2 Inv-loop μ-loop
+both-points-requires-2 c κs = search needs
+
 mul-s : tie.Need-mul-s Inv-loop μ-loop
-mul-s c = omega (arith, c .before .before .before .pre .few)
+mul-s c = omega (arith, c .before .before .before .before .before .before .before .before .before .before .before .before .before .pre .few)
 
 array-copy-out-s : tie.Need-array-copy-out-s Inv-loop μ-loop
-array-copy-out-s c = omega (arith, c .before .before .before .pre .few)
+array-copy-out-s c = omega (arith, c .before .before .before .before .before .before .before .before .before .before .before .before .before .pre .few)
 
 route-of-requires : tie.Need-route-of-requires Inv-loop μ-loop
 route-of-requires c κs =
-    let l = c .before .before in
-    let p = l .before .before .pre in
-    (p .layable _ (p .centre), p .layable _ (c .before .loop-test .taken), l .loop .inv .3 (l .loop .k) (omega (arith, p .few)))
+    let g = c .before .before .before .before .before .before in
+    let l = g .before in
+    let b = l .before .before in
+    let p = b .before .before .before .before .before .pre in
+    rw (b .both-points .ensures, c .before .both-points2 .ensures)
+    (p .layable _ (p .centre), p .layable _ (g .loop-test .taken), l .loop .inv .3 (l .loop .k) (omega (arith, p .few)))
 
 mul-t : tie.Need-mul-t Inv-loop μ-loop
-mul-t c = omega (arith, c .before .before .before .before .before .pre .few)
+mul-t c = omega (arith, c .before .before .before .before .before .before .before .before .before .before .before .before .before .before .before .pre .few)
 
 array-set-from-t : tie.Need-array-set-from-t Inv-loop μ-loop
-array-set-from-t c = omega (arith, c .before .before .before .before .before .pre .few)
+array-set-from-t c =
+    omega (arith, c .before .before .before .before .before .before .before .before .before .before .before .before .before .before .before .pre .few)
 
 add-k : tie.Need-add-k Inv-loop μ-loop
-add-k c = omega (arith, c .before .before .before .before .before .pre .few)
+add-k c = omega (arith, c .before .before .before .before .before .before .before .before .before .before .before .before .before .before .before .pre .few)
 
 loop-less : tie.Need-loop-less Inv-loop μ-loop
 loop-less c = search needs
 
 loop-again : tie.Need-loop-again Inv-loop μ-loop
 loop-again c =
-    let l = c .before .before .before .loop in
-    let p = c .before .before .before .before .before .pre in
-    let fits : l .k < length (l .t) = omega (arith, p .few) in (
-      search needs,
+    let d = c .before .before in
+    let l = d .before .before .before .before .before .before .loop in
+    let b = d .before .before .before .before .before .before .before .before in
+    let o = b .before .before .before .before .before in
+    let a = o .args in
+    let below : l .k < a .n = d .before .before .before .before .before .loop-test .taken in
+    let fits : l .k < length (l .t) = omega (arith, o .pre .few, l .inv .1, below) in
+    let at : ℕ → Points = pointsOf (a .t1) (a .t2) in
+    let IsLaid : ℕ → Route → Type 0 = λ j. Laid (at (a .centre)) (at j) (a .centre) (movesOf (a .moves)) j in (
+      omega (arith, below),
       length-set (l .t) (l .k) (c .route-of .result) ∙ l .inv .1,
       l .inv .2,
       l .inv .3,
-      set-next unlaid (l .t) (l .k) (c .route-of .result) fits (Laid _ _ _ _) (l .inv .4) (c .route-of .ensures),
+      set-next unlaid (l .t) (l .k) (c .route-of .result) fits IsLaid (l .inv .4)
+          (rw (b .both-points .ensures, d .both-points2 .ensures) at (c .route-of .ensures)),
       set-rest unlaid (l .t) (l .k) (c .route-of .result) fits (l .inv .5),
     )
 
@@ -77,8 +121,18 @@ routes-spec =
     (tie.spec
     Inv-loop
     μ-loop
+    element-copy-out-both-points
+    element-copy-out-both-points-2
+    element-copy-out-both-points-3
+    element-copy-out-both-points-4
+    both-points-requires
     stretches-requires
     loop-holds
+    element-copy-out-both-points-5
+    element-copy-out-both-points-6
+    element-copy-out-both-points-7
+    element-copy-out-both-points-8
+    both-points-requires-2
     mul-s
     array-copy-out-s
     route-of-requires

@@ -2,19 +2,10 @@
 use mathlib.Core.Path.{_∙_}
 use Prim.Native.Nat.{_+_}
 use borrow.Author.Needs.{needs}
-use Rattle.layout.specs.Sides.{goesBack}
+use Rattle.layout.specs.Points.{goesBack}
 use Rattle.layout.specs.Way.{wayOf}
 use Rattle.layout.proofs.way_of.Statement.{statement}
 use Rattle.layout.proofs.way_of.Tie as tie
-
-element-copy-out-flip : tie.Need-element-copy-out-flip
-element-copy-out-flip c = search needs
-
-element-copy-out-flip-2 : tie.Need-element-copy-out-flip-2
-element-copy-out-flip-2 c = search needs
-
-element-copy-out-number : tie.Need-element-copy-out-number
-element-copy-out-number c = search needs
 
 number-requires : tie.Need-number-requires
 number-requires c κs = search needs
@@ -22,14 +13,8 @@ number-requires c κs = search needs
 add-near : tie.Need-add-near
 add-near c = search needs
 
-element-copy-out-number-2 : tie.Need-element-copy-out-number-2
-element-copy-out-number-2 c = search needs
-
 number-requires-2 : tie.Need-number-requires-2
 number-requires-2 c κs = search needs
-
-element-copy-out-number-3 : tie.Need-element-copy-out-number-3
-element-copy-out-number-3 c = search needs
 
 number-requires-3 : tie.Need-number-requires-3
 number-requires-3 c κs = search needs
@@ -40,23 +25,18 @@ way-by-requires c κs = search needs
 returns : tie.Need-returns
 unfolding goesBack
 returns c =
-    let b = c .before .before .before in
-    let a = b .before .before in
-    let s = a .before .before .before .before .args in
+    let b = c .before .before in
+    let a = b .before in
+    let s = a .before .before .args in
     c .way-by .ensures ∙ λ i. wayOf (b .number2 .ensures .0 i) (c .before .number3 .ensures .0 i) (a .number .ensures .0 i + s .passed) (s .n)
 
 pub way-of-spec : {M : Type 1} → statement M
 way-of-spec =
     tie.close
     (tie.spec
-    element-copy-out-flip
-    element-copy-out-flip-2
-    element-copy-out-number
     number-requires
     add-near
-    element-copy-out-number-2
     number-requires-2
-    element-copy-out-number-3
     number-requires-3
     way-by-requires
     returns)
