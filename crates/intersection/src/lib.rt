@@ -2,7 +2,7 @@
 pub mod sets;
 
 ghost use mathlib.Core.Path.{_≡_};
-ghost use Prim.Native.Nat.{ℕ, _+_, _≤_, _<_};
+ghost use Prim.Native.Nat.{_+_, _≤_, _<_};
 ghost use Rattle.grid.specs.Runs.{runsOf};
 ghost use Rattle.network.specs.Lists.{every};
 ghost use Rattle.network.specs.Graph.{below, degree, isCentre, centres};

@@ -1,14 +1,14 @@
 -- The figures and the corners of a well-formed job's plans fit their fields, so that a plan's bytes determine them.
-use mathlib.Core.Path.{_≡_, refl, sym, ap, subst}
+use mathlib.Core.Path.{_≡_, refl}
 use mathlib.Core.Bool.{Bool, true, false}
-use mathlib.Core.List.{List, [], _∷_, _++_, map, flatten}
-use Prim.Native.Nat.{ℕ, zero, suc, _+_, _-_, _*_, _^_, _≤_, _<_}
+use mathlib.Core.List.{List, [], _∷_, map, flatten}
+use Prim.Native.Nat.{ℕ, zero, suc, _+_, _*_, _≤_, _<_}
 use native.Mathlib.Omega.{arith}
 use lib.ListN.{length, getD, length-append, length-map}
 use Rattle.network.specs.Lists.{sum, All}
 use Rattle.network.specs.Plane.{Point, Run, gap, distance}
 use Rattle.network.specs.Hanan.{xs, ys, hanan}
-use Rattle.network.specs.Route.{Route, Listed, Vertex, Manhattan, Routes, unionLength}
+use Rattle.network.specs.Route.{Route, Vertex, Routes}
 use Rattle.network.specs.Graph.{meets, below, centres}
 use Rattle.network.specs.Corners.{corners}
 use Rattle.network.proofs.Counting.{counting}

@@ -13,7 +13,7 @@ use Rattle.network.specs.Steps.{hor, ver}
 use Rattle.grid.specs.Runs as grid
 use Rattle.grid.proofs.Hanan.{axis-columns, axis-rows}
 use Rattle.intersection.specs.Sets.{has}
-use Rattle.intersection.specs.Star.{meetsIn, neighbourSets, starOf}
+use Rattle.intersection.specs.Star.{meetsIn, starOf}
 use Rattle.intersection.specs.declared.Star.the-variants.{Centre}
 use Rattle.intersection.proofs.Stars.{set-joined}
 use Rattle.job.specs.declared.Job.{Job}

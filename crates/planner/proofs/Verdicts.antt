@@ -1,6 +1,6 @@
 -- The outcomes of a call, stage by stage: the verdict falls where the code answers.
-use mathlib.Core.Path.{_≡_, refl, sym, ap, _∙_, subst}
-use mathlib.Core.Bool.{Bool, true, false, cond}
+use mathlib.Core.Path.{_≡_, refl}
+use mathlib.Core.Bool.{cond}
 use mathlib.Core.List.{List, [], _∷_}
 use Prim.Native.Nat.{ℕ, _≤_, _<_}
 use native.Mathlib.Omega.{arith}
@@ -9,7 +9,7 @@ use lib.ListN.{length}
 use Rattle.job.specs.declared.Run.{Run as Read}
 use Rattle.job.specs.declared.Refusal.{Refusal}
 use Rattle.job.specs.declared.Refusal.the-variants.{ShortWork, ShortPlan, NoStar}
-use Rattle.job.specs.Parse.{Parsed, accepted, refused, parse}
+use Rattle.job.specs.Parse.{accepted, refused, parse}
 use Rattle.intersection.specs.declared.Star.the-variants as star
 use Rattle.intersection.specs.Star.{starOf}
 use Rattle.planner.specs.declared.Answer.{Answer}

@@ -1,9 +1,9 @@
 -- The plan that is written is that of the routes that were laid: its figures are measured on them.
 use mathlib.Core.Path.{_≡_, refl, sym, ap, _∙_, subst}
 use mathlib.Core.List.{List, [], _∷_, map, map-map}
-use Prim.Native.Nat.{ℕ, _+_, _-_, _≤_, _<_, _%_}
+use Prim.Native.Nat.{ℕ, _-_, _≤_, _<_, _%_}
 use native.Mathlib.Omega.{arith}
-use lib.ListN.{length, getD, take, length-map}
+use lib.ListN.{length, getD, take}
 use Rattle.network.specs.Lists.{sum, All}
 use Rattle.network.specs.Plane.{Run, distance}
 use Rattle.network.specs.Grid.{Grid}
@@ -28,7 +28,7 @@ use Rattle.planner.specs.Verdict.{runsOf, numbersOf, centresOf}
 use Rattle.planner.specs.Outcome.{planOf}
 use Rattle.planner.specs.Held.{runsIn, Held}
 use Rattle.planner.specs.declared.star.Layout.{Layout}
-use Rattle.planner.specs.Stages.{LaidOut, Lined, drawnBy, ownOf, Heading}
+use Rattle.planner.specs.Stages.{LaidOut, Lined, drawnBy, ownOf}
 use Rattle.planner.proofs.Held.{length-held, length-plane, held-few, numbers-held}
 use Rattle.planner.proofs.Centred.{first-centre}
 use Rattle.planner.proofs.Fits.{few-lines}

@@ -8,7 +8,6 @@ mod star;
 use intersection::Star;
 use job::Job;
 use job::Refusal;
-ghost use mathlib.Core.Path.{_≡_};
 ghost use lib.ListN.{length};
 ghost use Rattle.job.specs.Parse.{accepted};
 ghost use Rattle.planner.specs.Verdict.{judged, verdict};

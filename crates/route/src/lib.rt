@@ -1,7 +1,7 @@
 // Routes on the lines of a grid: the walker along a route, its corners, and the pits of several routes. A line is named by its index
 // among the columns or the rows.
 ghost use mathlib.Core.Path.{_≡_};
-ghost use mathlib.Core.List.{List, [], _∷_, map};
+ghost use mathlib.Core.List.{[], _∷_, map};
 ghost use Prim.Native.Nat.{_<_, _≤_};
 ghost use lib.ListN.{length, getD, take};
 ghost use Rattle.network.specs.Lists.{All};

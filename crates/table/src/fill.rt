@@ -2,8 +2,8 @@
 use crate::frame::Group;
 use crate::frame::Line;
 ghost use mathlib.Core.Path.{_≡_};
-ghost use Prim.Native.Nat.{ℕ, pred, _+_, _-_, _*_, _^_, _≤_, _<_, max};
-ghost use lib.ListN.{length, getD};
+ghost use Prim.Native.Nat.{pred, _+_, _-_, _*_, _^_, _≤_, _<_, max};
+ghost use lib.ListN.{length};
 ghost use Rattle.sharing.specs.Table.{plus};
 ghost use Rattle.table.specs.Rule.{pairOf, edgeBy, unlessOwn, ifOwn, ruleOf, startOf, Ruled, figureOf, Fit, Beyond, four, enterOf, intoOf, Light, Near, cellIn};
 

@@ -1,11 +1,11 @@
 // The centre's frame: columns and rows counted from its first point to its second, with the sets of leaves from which the owner of an edge is found.
 use crate::side::Side;
 ghost use mathlib.Core.Path.{_≡_};
-ghost use mathlib.Core.Bool.{cond, _&&_};
-ghost use Prim.Native.Nat.{ℕ, suc, _+_, _^_, _≤_, _<_, min, max};
+ghost use mathlib.Core.Bool.{cond};
+ghost use Prim.Native.Nat.{ℕ, suc, _+_, _^_, _≤_, _<_};
 ghost use lib.ListN.{getD};
 ghost use Rattle.network.specs.Plane.{gap};
-ghost use Rattle.intersection.specs.Sets.{has, pack};
+ghost use Rattle.intersection.specs.Sets.{pack};
 ghost use Rattle.table.specs.Side.{firstOf, secondOf, Placed};
 ghost use Rattle.table.specs.Frame.{lineOf, lowerOf, blank, frameLine, ahead, goesDown, crosses, FrameLines, Grouped};
 

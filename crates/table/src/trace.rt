@@ -3,7 +3,7 @@ use crate::fill::Edge;
 use crate::frame::Group;
 use crate::frame::Line;
 ghost use mathlib.Core.Path.{_≡_};
-ghost use Prim.Native.Nat.{ℕ, pred, _+_, _-_, _*_, _≤_, _<_};
+ghost use Prim.Native.Nat.{pred, _+_, _-_, _*_, _≤_, _<_};
 ghost use lib.ListN.{length};
 ghost use Rattle.table.specs.Rule.{Fit};
 ghost use Rattle.table.specs.Walk.{takenBy, chosen, beginsWith, beforeOf, arriveOf, upNo, shareNo, movesOf, walked};

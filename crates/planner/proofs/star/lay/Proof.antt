@@ -1,7 +1,6 @@
 -- The group of the star is filled, read and walked in the work words; the laws of `Laying` put the stages' promises together.
 use borrow.Author.Needs.{needs}
 use native.Mathlib.Omega.{arith}
-use denote.Ref.{now}
 use mathlib.Core.Path.{sym, subst}
 use Rattle.layout.specs.Laid.{AllLayable, AllLaid}
 use Rattle.planner.proofs.Laying.{group-asks, group-fits, work-beyond, walk-fits, laid-out}

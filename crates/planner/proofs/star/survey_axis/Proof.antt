@@ -1,6 +1,5 @@
 -- The axis holds the distinct values, which rise.
 use borrow.Author.Needs.{needs}
-use native.Mathlib.Omega.{arith}
 use denote.Ref.{now}
 use Rattle.network.specs.Hanan.{distinct, distinct-rises}
 use Rattle.grid.specs.Lines.{values}
