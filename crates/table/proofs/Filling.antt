@@ -8,6 +8,7 @@ use Prim.Native.Nat.{ℕ, zero, suc, pred, _+_, _-_, _*_, _≤_, _<_, max, zero-
 use native.Mathlib.Nat.{add-zero, mul-le-mul, mul-le-mul-right, suc-mul}
 use native.Mathlib.Omega.{arith}
 use native.Mathlib.Decide.{decLt}
+use borrow.Author.Tests.{ne-eqb}
 use lib.Dec.{eqb}
 use lib.ListN.{length, getD, set, length-set}
 use lib.Seq.{getD-set-same, getD-set-other}
@@ -48,6 +49,11 @@ pub position-first : (w b : ℕ) → position w 0 b ≡ b * w
 unfolding position
 position-first w b = omega arith
 
+-- a vertex of the first row
+pub position-base : (w a : ℕ) → position w a 0 ≡ a
+unfolding position
+position-base w a = omega arith
+
 -- the next vertex
 pub position-next : (w a b : ℕ) → position w (suc a) b ≡ suc (position w a b)
 unfolding position
@@ -67,6 +73,11 @@ position-plus w a b = omega arith
 pub position-end : (w b : ℕ) → position w w b ≡ position w 0 (suc b)
 unfolding position
 position-end w b = omega (arith, suc-mul b w)
+
+-- behind the first row at least one row is passed
+pub position-behind : (w a b : ℕ) → 1 ≤ b → w + a ≤ position w a b
+unfolding position
+position-behind w a b h = omega (arith, mul-le-mul-right {m = 1} {n = b} w h)
 
 -- a vertex of the frame has a position below w * h
 pub position-lt : (w h a b : ℕ) → a < w → b < h → position w a b < h * w
@@ -393,7 +404,7 @@ fit-same g words words′ e f =
     record { some-columns = f .some-columns; columns = f .columns; some-rows = f .some-rows; rows = f .rows; room = omega (arith, f .room); short = f .short }
 
 -- nothing is done at the start
-pub done-none : (g : Group) (words : List ℕ) → Done g words 0
+done-none : (g : Group) (words : List ℕ) → Done g words 0
 done-none g words = record { ruled = λ d s t hs ht h. absurd (omega arith); low = λ a b ha h. absurd (omega arith) }
 
 -- with all done, the table has the local rule
@@ -401,12 +412,61 @@ pub done-all : (g : Group) (words : List ℕ) → Done g words (g .h * g .w) →
 done-all g words d e s t hs ht = d .ruled e s t hs ht (spot-lt g e s t hs ht)
 
 -- nothing is touched at the start
-pub beyond-none : (words : List ℕ) (n : ℕ) → Beyond words words n
+beyond-none : (words : List ℕ) (n : ℕ) → Beyond words words n
 beyond-none words n = record { size = refl; same = λ k h. refl }
 
 -- what two turns leave untouched, both together do
-pub beyond-more : (first words made : List ℕ) (n m : ℕ) → n ≤ m → Beyond first words n → Beyond words made m → Beyond first made m
+beyond-more : (first words made : List ℕ) (n m : ℕ) → n ≤ m → Beyond first words n → Beyond words made m → Beyond first made m
 beyond-more first words made n m h d e = record { size = e .size ∙ d .size; same = λ k l. e .same k l ∙ d .same k (omega arith) }
+
+-- the cell of the vertex that was put in last
+cell-next : (words : List ℕ) (p : ℕ) (c : Cell) → p * 4 + 3 < length words → c ≡ cellIn (four words (p * 4) (c .hor) (c .ver)) p
+cell-next words p c h =
+    let f = four-at words (p * 4) (c .hor) (c .ver) h in
+    let n : p * 4 + 2 + 1 ≡ p * 4 + 3 = omega arith in
+    ap₂ (λ x y. record { hor = x; ver = y }) (ap₂ pair (sym (simp add-zero (f .0))) (sym (simp add-zero (f .1)))) (ap₂ pair (sym (f .2)) (sym (rw n (f .3))))
+
+-- ---- from turn to turn
+
+-- the vertices below position p are done, and from its words on nothing differs from the first words
+pub record Filled (g : Group) (first words : List ℕ) (p : ℕ) : Type 0 where
+  pub fit : Fit g words
+  pub done : Done g words p
+  pub beyond : Beyond first words (p * 4)
+
+-- where nothing is done
+pub filled-none : (g : Group) (words : List ℕ) → Fit g words → Filled g words words 0
+filled-none g words f = record { fit = f; done = done-none g words; beyond = beyond-none words 0 }
+
+-- where the words are the first ones
+pub filled-again : (g : Group) (first words : List ℕ) (p : ℕ) → Filled g first words p → Filled g words words p
+filled-again g first words p f = record { fit = f .fit; done = f .done; beyond = beyond-none words (p * 4) }
+
+-- one after the other
+pub filled-more : (g : Group) (first words made : List ℕ) (n m : ℕ) → n ≤ m → Filled g first words n → Filled g words made m → Filled g first made m
+filled-more g first words made n m h d e =
+    record { fit = e .fit; done = e .done; beyond = beyond-more first words made (n * 4) (m * 4) (omega arith) (d .beyond) (e .beyond) }
+
+-- the vertex in column a and row b is put in: one more is done, and its cell is the one before the next position
+module _ (g : Group) (first words : List ℕ) (p a b : ℕ) (F : Filled g first words p) (ha : a < g .w) (hb : b < g .h) (e : p ≡ position (g .w) a b) where
+  pub filled-next : (c : Cell) (made : List ℕ) → made ≡ four words (p * 4) (c .hor) (c .ver)
+      → c .hor ≡ intoOf words a 1 p 0 (lineAt g hor a) (lineAt g hor (pred a)) (lineAt g ver b) (g .cross)
+      → c .ver ≡ intoOf words b (g .w) p 1 (lineAt g ver b) (lineAt g ver (pred b)) (lineAt g hor a) (g .cross)
+      → Filled g first made (p + 1) × (c ≡ cellIn made (p + 1 - 1))
+  filled-next c made m x y =
+      let is = m ∙ ap₂ (four words (p * 4)) x y in
+      let n : p + 1 - 1 ≡ p = omega arith in (
+        record {
+          fit = fit-same g words made (ap length m ∙ length-four words (p * 4) (c .hor) (c .ver)) (F .fit);
+          done = done-next g words p (F .fit) (F .done) first made a b ha hb e is;
+          beyond = beyond-next g words p (F .fit) (F .done) first made a b ha hb e is (F .beyond);
+        },
+        rw (n, m) (cell-next words p c (near g words p (F .fit) (F .done) hor a b ha hb e .room)),
+      )
+
+  -- it has a number that can be counted on from
+  pub position-few : p + 1 ≤ 4096
+  position-few = omega (arith, position-lt (g .w) (g .h) a b ha hb, area (g .w) (g .h) (F .fit .columns) (F .fit .rows))
 
 -- ---- the last vertex
 
@@ -437,9 +497,12 @@ pub enter-left : (words : List ℕ) (a p : ℕ) (c : Cell) (col left row : Line)
 enter-left words zero p c col left row cross h = enter-none 0 _ _ _ col left row cross refl ∙ sym (enter-none 0 _ _ _ col left row cross refl)
 enter-left words (suc a) p c col left row cross h = ap (λ c. enterOf (suc a) (c .hor) (c .ver) (startOf (p - 1)) col left row cross) (h (λ z. omega arith))
 
--- the cell of the vertex that was put in last
-pub cell-next : (words : List ℕ) (p : ℕ) (c : Cell) → p * 4 + 3 < length words → c ≡ cellIn (four words (p * 4) (c .hor) (c .ver)) p
-cell-next words p c h =
-    let f = four-at words (p * 4) (c .hor) (c .ver) h in
-    let n : p * 4 + 2 + 1 ≡ p * 4 + 3 = omega arith in
-    ap₂ (λ x y. record { hor = x; ver = y }) (ap₂ pair (sym (simp add-zero (f .0))) (sym (simp add-zero (f .1)))) (ap₂ pair (sym (f .2)) (sym (rw n (f .3))))
+-- ---- where the walk does not start
+
+-- the start is not counted
+pub start-none : (u : ℕ) → (u ≡ 0 → ⊥) → startOf u ≡ 0
+start-none u h = ap (λ t. cond t 1 0) (ne-eqb u 0 h)
+
+pub light-none : (x y : Pair) (start len : ℕ) → Light x y start len → Light x y 0 len
+light-none x y start len l =
+    record { along-best = l .along-best; along-run = l .along-run; across-best = l .across-best; begins = omega arith; short = l .short }

@@ -203,6 +203,33 @@ fn vertex(
     Cell { hor: x, ver: y }
 }
 
+// The same for a vertex that is on neither the first column nor the first row: neither edge into it begins where the walk starts.
+fn inner_vertex(
+    work: &mut [u32],
+    w: usize,
+    a: usize,
+    b: usize,
+    p: usize,
+    last: Cell,
+    col: Line,
+    left: Line,
+    row: Line,
+    below: Line,
+    cross: u32,
+) -> Cell
+    requires { ⌜ Near (now work) a 1 p 0 (col .len) × Near (now work) b w p 1 (row .len) × (last ≡ cellIn (now work) (p - 1)) × (1 ≤ a) × (1 ≤ b) × (1 ≤ w) × (w < p) ⌝ }
+    ensures { λ r. ⌜ (now (work .exit) ≡ four (now (work .entry)) (p * 4) (r .hor) (r .ver))
+        × (r .hor ≡ intoOf (now (work .entry)) a 1 p 0 col left row cross) × (r .ver ≡ intoOf (now (work .entry)) b w p 1 row below col cross) ⌝ }
+{
+    let u = p - w;
+    let x = enter(a, last.hor, last.ver, 0, col, left, row, cross);
+    let along = pair_at(&*work, u, 1);
+    let across = pair_at(&*work, u, 0);
+    let y = enter(b, along, across, 0, row, below, col, cross);
+    put(work, p, x, y);
+    Cell { hor: x, ver: y }
+}
+
 // The line before line i; the first line for itself.
 fn line_before(i: usize) -> usize
     ensures { λ r. ⌜ r ≡ pred i ⌝ }
@@ -210,8 +237,8 @@ fn line_before(i: usize) -> usize
     if i == 0 { 0 } else { i - 1 }
 }
 
-// The table of the group, in the first 4 * h * w work words. Two loops in one function: passed to a function for each row, the group would be copied
-// for each row.
+// The table of the group, in the first 4 * h * w work words: the first row, then of each further row the first vertex and the others. Three loops in one
+// function: passed to a function for each row, the group would be copied for each row.
 pub fn fill(work: &mut [u32], g: Group)
     requires { ⌜ Fit g (now work) ⌝ }
     ensures { λ _. ⌜ Ruled g (now (work .exit)) × Beyond (now (work .entry)) (now (work .exit)) (g .h * g .w * 4) ⌝ }
@@ -224,19 +251,31 @@ pub fn fill(work: &mut [u32], g: Group)
         hor: zero,
         ver: zero,
     };
+    let first = g.cols[0];
+    let base = g.rows[0];
+    let mut lead = none;
     let mut p: usize = 0;
-    let mut b: usize = 0;
+    while p < w {
+        let j = line_before(p);
+        let col = g.cols[p];
+        let left = g.cols[j];
+        let cell = vertex(work, w, p, 0, p, lead, col, left, base, base, cross);
+        lead = cell;
+        p += 1;
+    }
+    let mut b: usize = 1;
     while b < h {
         let i = line_before(b);
         let row = g.rows[b];
         let below = g.rows[i];
-        let mut last = none;
-        let mut a: usize = 0;
+        let mut last = vertex(work, w, 0, b, p, none, first, first, row, below, cross);
+        p += 1;
+        let mut a: usize = 1;
         while a < w {
             let j = line_before(a);
             let col = g.cols[a];
             let left = g.cols[j];
-            let cell = vertex(work, w, a, b, p, last, col, left, row, below, cross);
+            let cell = inner_vertex(work, w, a, b, p, last, col, left, row, below, cross);
             last = cell;
             p += 1;
             a += 1;

@@ -1,166 +1,329 @@
--- Before each turn the vertices before position p are done, nothing from there on has changed, and `last` is the cell before it.
+-- Before each turn the vertices before position p are done, nothing from there on has changed, and `lead` or `last` is the cell before it.
 use Prim.Native.Nat.{_≤_, _-_, _+_, _*_}
-use mathlib.Core.Path.{_≡_, refl, sym, ap, ap₂, _∙_}
+use mathlib.Core.Path.{_≡_, refl, sym, ap, _∙_}
 use native.Mathlib.Numerals.{add-one}
-use Rattle.network.specs.Steps.{hor, ver}
-use Rattle.table.specs.Rule.{position, Beyond, four, cellIn}
-use Rattle.table.proofs.Filling.{Done, position-first, position-next, position-plus, position-end, position-lt, area, fit-same, near, done-none, done-next, done-all, beyond-none, beyond-next, beyond-more, cell-next}
-use borrow.Author.Needs.{needs}
 use native.Mathlib.Omega.{arith}
+use borrow.Author.Needs.{needs}
+use Rattle.network.specs.Steps.{hor, ver}
+use Rattle.table.specs.Rule.{position, cellIn}
+use Rattle.table.proofs.Filling.{
+  position-base,
+  position-first,
+  position-next,
+  position-plus,
+  position-end,
+  near,
+  done-all,
+  Filled,
+  filled-none,
+  filled-again,
+  filled-more,
+  filled-next,
+  position-few,
+  position-behind,
+}
 use Rattle.table.proofs.fill.fill.Statement.{statement}
 use Rattle.table.proofs.fill.fill.Tie as tie
 
-abbrev Inv-loop2 : tie.InvT-loop2
-Inv-loop2 work₀ g w h cross none p₀ b i row below last₀ a₀ work p last a = (a ≤ g .w) × (p ≡ position (g .w) a b) × Done g work p × Beyond work₀ work (p * 4) × ((a ≡ 0 → ⊥) → last ≡ cellIn work (p - 1))
-
-abbrev μ-loop2 : tie.MeasureT-loop2
-μ-loop2 work₀ g w h cross none p₀ b i row below last₀ a₀ work p last a = w - a
-
+-- the first row
 abbrev Inv-loop : tie.InvT-loop
-Inv-loop work₀ g w h cross none p₀ b₀ work p b = (b ≤ g .h) × (p ≡ position (g .w) 0 b) × Done g work p × Beyond work₀ work (p * 4)
+Inv-loop work₀ g w h cross none first base lead₀ p₀ work lead p = (p ≤ g .w) × Filled g work₀ work p × ((p ≡ 0 → ⊥) → lead ≡ cellIn work (p - 1))
 
 abbrev μ-loop : tie.MeasureT-loop
-μ-loop work₀ g w h cross none p₀ b₀ work p b = h - b
+μ-loop work₀ g w h cross none first base lead₀ p₀ work lead p = w - p
 
-loop-holds : tie.Need-loop-holds Inv-loop2 μ-loop2 Inv-loop μ-loop
-loop-holds c = (search needs, omega (arith, position-first (c .before .args .t2 .w) 0), done-none _ _, beyond-none _ _)
+-- a row behind its first vertex
+abbrev Inv-loop3 : tie.InvT-loop3
+Inv-loop3 work₀ g w h cross none first p₀ b i row below last₀ a₀ work p last a =
+    (1 ≤ a) × (a ≤ g .w) × (p ≡ position (g .w) a b) × Filled g work₀ work p × (last ≡ cellIn work (p - 1))
 
-line-before-requires : tie.Need-line-before-requires Inv-loop2 μ-loop2 Inv-loop μ-loop
+abbrev μ-loop3 : tie.MeasureT-loop3
+μ-loop3 work₀ g w h cross none first p₀ b i row below last₀ a₀ work p last a = w - a
+
+-- the rows behind the first
+abbrev Inv-loop2 : tie.InvT-loop2
+Inv-loop2 work₀ g w h cross none first p₀ b₀ work p b = (1 ≤ b) × (b ≤ g .h) × (p ≡ position (g .w) 0 b) × Filled g work₀ work p
+
+abbrev μ-loop2 : tie.MeasureT-loop2
+μ-loop2 work₀ g w h cross none first p₀ b₀ work p b = h - b
+
+element-copy-out-first : tie.Need-element-copy-out-first Inv-loop μ-loop Inv-loop3 μ-loop3 Inv-loop2 μ-loop2
+element-copy-out-first c = search needs
+
+element-copy-out-base : tie.Need-element-copy-out-base Inv-loop μ-loop Inv-loop3 μ-loop3 Inv-loop2 μ-loop2
+element-copy-out-base c = search needs
+
+loop-holds : tie.Need-loop-holds Inv-loop μ-loop Inv-loop3 μ-loop3 Inv-loop2 μ-loop2
+loop-holds c =
+    let s = c .before .before .before in
+    (omega arith, filled-none _ _ (s .pre), λ z. absurd (z refl))
+
+line-before-requires : tie.Need-line-before-requires Inv-loop μ-loop Inv-loop3 μ-loop3 Inv-loop2 μ-loop2
 line-before-requires c κs = search needs
 
-mul-row : tie.Need-mul-row Inv-loop2 μ-loop2 Inv-loop μ-loop
-mul-row c = search needs
+mul-col : tie.Need-mul-col Inv-loop μ-loop Inv-loop3 μ-loop3 Inv-loop2 μ-loop2
+mul-col c = omega (arith, c .before .before .before .before .before .before .pre .columns)
 
-element-copy-out-row : tie.Need-element-copy-out-row Inv-loop2 μ-loop2 Inv-loop μ-loop
-element-copy-out-row c = search needs
+element-copy-out-col : tie.Need-element-copy-out-col Inv-loop μ-loop Inv-loop3 μ-loop3 Inv-loop2 μ-loop2
+element-copy-out-col c = omega (arith, c .before .before .before .before .before .before .pre .columns)
 
-mul-below : tie.Need-mul-below Inv-loop2 μ-loop2 Inv-loop μ-loop
-mul-below c = search needs
+mul-left : tie.Need-mul-left Inv-loop μ-loop Inv-loop3 μ-loop3 Inv-loop2 μ-loop2
+mul-left c = omega (arith, c .before .before .before .before .before .before .before .pre .columns, c .before .line-before .ensures)
 
-element-copy-out-below : tie.Need-element-copy-out-below Inv-loop2 μ-loop2 Inv-loop μ-loop
-element-copy-out-below c = search needs
+element-copy-out-left : tie.Need-element-copy-out-left Inv-loop μ-loop Inv-loop3 μ-loop3 Inv-loop2 μ-loop2
+element-copy-out-left c = omega (arith, c .before .before .before .before .before .before .before .pre .columns, c .before .line-before .ensures)
 
-loop2-holds : tie.Need-loop2-holds Inv-loop2 μ-loop2 Inv-loop μ-loop
-loop2-holds c =
-    let l = c .before .before .before .before in
-    (search needs, l .loop .inv .1, l .loop .inv .2, beyond-none _ _, λ z. absurd (z refl))
-
-line-before-requires-2 : tie.Need-line-before-requires-2 Inv-loop2 μ-loop2 Inv-loop μ-loop
-line-before-requires-2 c κs = search needs
-
-mul-col : tie.Need-mul-col Inv-loop2 μ-loop2 Inv-loop μ-loop
-mul-col c = search needs
-
-element-copy-out-col : tie.Need-element-copy-out-col Inv-loop2 μ-loop2 Inv-loop μ-loop
-element-copy-out-col c = search needs
-
-mul-left : tie.Need-mul-left Inv-loop2 μ-loop2 Inv-loop μ-loop
-mul-left c = search needs
-
-element-copy-out-left : tie.Need-element-copy-out-left Inv-loop2 μ-loop2 Inv-loop μ-loop
-element-copy-out-left c = search needs
-
-vertex-requires : tie.Need-vertex-requires Inv-loop2 μ-loop2 Inv-loop μ-loop
+vertex-requires : tie.Need-vertex-requires Inv-loop μ-loop Inv-loop3 μ-loop3 Inv-loop2 μ-loop2
 vertex-requires c κs =
     let l = c .before .before .before .before .before in
-    let o = l .before .before .before .before .before in
-    let s = o .before .before in
-    let g = s .args .t2 in
-    let f = fit-same g _ (l .loop2 .work) (l .loop2 .inv .3 .size ∙ o .loop .inv .3 .size) (s .pre) in (
-      near g (l .loop2 .work) (l .loop2 .p) f (l .loop2 .inv .2) hor (l .loop2 .a) (o .loop .b) (omega arith) (omega arith) (l .loop2 .inv .1),
-      near g (l .loop2 .work) (l .loop2 .p) f (l .loop2 .inv .2) ver (o .loop .b) (l .loop2 .a) (omega arith) (omega arith) (l .loop2 .inv .1),
-      l .loop2 .inv .4,
+    let s = l .before .before .before .before in
+    let F = l .loop .inv .1 in
+    let e = sym (position-base (s .args .t2 .w) (l .loop .p)) in
+    let h = s .pre .some-rows in (
+      near _ _ _ (F .fit) (F .done) hor _ 0 (c .before .before .before .before .loop-test .taken) h e,
+      near _ _ _ (F .fit) (F .done) ver 0 _ h (c .before .before .before .before .loop-test .taken) e,
+      l .loop .inv .2,
     )
 
-add-p : tie.Need-add-p Inv-loop2 μ-loop2 Inv-loop μ-loop
-add-p c =
-    let l = c .before .before .before .before .before .before .before .before in
-    let o = l .before .before .before .before .before in
-    let s = o .before .before in
+add-p : tie.Need-add-p Inv-loop μ-loop Inv-loop3 μ-loop3 Inv-loop2 μ-loop2
+add-p c = omega (arith, c .before .before .before .before .before .before .before .before .before .before .before .before .pre .columns, c .before .before .before .before .before .before .before .loop-test .taken)
+
+loop-less : tie.Need-loop-less Inv-loop μ-loop Inv-loop3 μ-loop3 Inv-loop2 μ-loop2
+loop-less c = omega (arith, c .before .before .before .before .before .before .before .loop-test .taken)
+
+loop-again : tie.Need-loop-again Inv-loop μ-loop Inv-loop3 μ-loop3 Inv-loop2 μ-loop2
+loop-again c =
+    let v = c .before .before in
+    let t = v .before .before .before .before .before in
+    let l = t .before in
+    let s = l .before .before .before .before in
     let g = s .args .t2 in
-    omega (arith, l .loop2 .inv .1, position-lt (g .w) (g .h) (l .loop2 .a) (o .loop .b) (omega arith) (omega arith), area (g .w) (g .h) (s .pre .columns) (s .pre .rows))
+    let e = rw (v .before .before .before .before .line-before .ensures) at (v .vertex .ensures) in
+    let n = filled-next g _ (l .loop .work) (l .loop .p) (l .loop .p) 0 (l .loop .inv .1) (t .loop-test .taken) (s .pre .some-rows) (sym (position-base (g .w) (l .loop .p)))
+    (v .vertex .result) _ (e .0) (e .1) (e .2) in
+    (omega (arith, t .loop-test .taken), n .0, λ _. n .1)
 
-add-a : tie.Need-add-a Inv-loop2 μ-loop2 Inv-loop μ-loop
-add-a c = search needs
+loop2-holds : tie.Need-loop2-holds Inv-loop μ-loop Inv-loop3 μ-loop3 Inv-loop2 μ-loop2
+loop2-holds c =
+    let l = c .before in
+    let s = l .before .before .before .before in
+    let g = s .args .t2 in (
+      omega arith,
+      s .pre .some-rows,
+      omega (arith, l .loop .inv .0, c .loop-test .left, position-first (g .w) 1),
+      filled-again _ _ _ _ (l .loop .inv .1),
+    )
 
-loop2-less : tie.Need-loop2-less Inv-loop2 μ-loop2 Inv-loop μ-loop
-loop2-less c = search needs
+line-before-requires-2 : tie.Need-line-before-requires-2 Inv-loop μ-loop Inv-loop3 μ-loop3 Inv-loop2 μ-loop2
+line-before-requires-2 c κs = search needs
 
-loop2-again : tie.Need-loop2-again Inv-loop2 μ-loop2 Inv-loop μ-loop
-loop2-again c =
+mul-row : tie.Need-mul-row Inv-loop μ-loop Inv-loop3 μ-loop3 Inv-loop2 μ-loop2
+mul-row c = omega (arith, c .before .before .before .before .before .before .before .before .pre .rows, c .before .loop2-test .taken)
+
+element-copy-out-row : tie.Need-element-copy-out-row Inv-loop μ-loop Inv-loop3 μ-loop3 Inv-loop2 μ-loop2
+element-copy-out-row c = omega (arith, c .before .before .before .before .before .before .before .before .pre .rows, c .before .loop2-test .taken)
+
+mul-below : tie.Need-mul-below Inv-loop μ-loop Inv-loop3 μ-loop3 Inv-loop2 μ-loop2
+mul-below c = omega (arith, c .before .before .before .before .before .before .before .before .before .pre .rows, c .before .before .loop2-test .taken, c .before .line-before2 .ensures)
+
+element-copy-out-below : tie.Need-element-copy-out-below Inv-loop μ-loop Inv-loop3 μ-loop3 Inv-loop2 μ-loop2
+element-copy-out-below c = omega (arith, c .before .before .before .before .before .before .before .before .before .pre .rows, c .before .before .loop2-test .taken, c .before .line-before2 .ensures)
+
+vertex-requires-2 : tie.Need-vertex-requires-2 Inv-loop μ-loop Inv-loop3 μ-loop3 Inv-loop2 μ-loop2
+vertex-requires-2 c κs =
+    let t = c .before .before .before .before in
+    let l = t .before in
+    let s = l .before .before .before .before .before .before in
+    let F = l .loop2 .inv .3 in
+    let w = s .pre .some-columns in (
+      near _ _ _ (F .fit) (F .done) hor 0 _ w (t .loop2-test .taken) (l .loop2 .inv .2),
+      near _ _ _ (F .fit) (F .done) ver _ 0 (t .loop2-test .taken) w (l .loop2 .inv .2),
+      λ z. absurd (z refl),
+    )
+
+add-p-2 : tie.Need-add-p-2 Inv-loop μ-loop Inv-loop3 μ-loop3 Inv-loop2 μ-loop2
+add-p-2 c =
+    let t = c .before .before .before .before .before .before .before in
+    let l = t .before in
+    let s = l .before .before .before .before .before .before in
+    omega (arith, position-few (s .args .t2) _ _ (l .loop2 .p) 0 (l .loop2 .b) (l .loop2 .inv .3) (s .pre .some-columns) (t .loop2-test .taken) (l .loop2 .inv .2))
+
+-- the first vertex of a row is put in
+column-done : (c : tie.After-slice-known3 Inv-loop μ-loop Inv-loop3 μ-loop3 Inv-loop2 μ-loop2) →
     let v = c .before .before in
     let l = v .before .before .before .before .before .before in
-    let o = l .before .before .before .before .before in
-    let s = o .before .before in
+    Filled (l .before .before .before .before .before .before .args .t2) (l .before .before .loop .work) (v .vertex2 .last .0) (l .loop2 .p + 1)
+    × (v .vertex2 .result ≡ cellIn (v .vertex2 .last .0) (l .loop2 .p + 1 - 1))
+column-done c =
+    let v = c .before .before in
+    let u = v .before .before .before .before .before in
+    let l = u .before in
+    let s = l .before .before .before .before .before .before in
     let g = s .args .t2 in
-    let e = v .vertex .ensures in
-    let f = fit-same g _ (l .loop2 .work) (l .loop2 .inv .3 .size ∙ o .loop .inv .3 .size) (s .pre) in
-    let n = near g (l .loop2 .work) (l .loop2 .p) f (l .loop2 .inv .2) hor (l .loop2 .a) (o .loop .b) (omega arith) (omega arith) (l .loop2 .inv .1) in
-    let m = rw (v .before .before .before .before .line-before2 .ensures, l .before .before .before .line-before .ensures) at (e .0 ∙ ap₂ (four (l .loop2 .work) (l .loop2 .p * 4)) (e .1) (e .2)) in
-    let z : l .loop2 .p + 1 - 1 ≡ l .loop2 .p = omega arith in (
-      search needs,
-      rw (add-one (l .loop2 .a), position-next (g .w) (l .loop2 .a) (o .loop .b), ← l .loop2 .inv .1) (add-one (l .loop2 .p)),
-      done-next g (l .loop2 .work) (l .loop2 .p) f (l .loop2 .inv .2) (o .loop .work) _ (l .loop2 .a) (o .loop .b) (omega arith) (omega arith) (l .loop2 .inv .1) m,
-      beyond-next g (l .loop2 .work) (l .loop2 .p) f (l .loop2 .inv .2) (o .loop .work) _ (l .loop2 .a) (o .loop .b) (omega arith) (omega arith) (l .loop2 .inv .1) m (l .loop2 .inv .3),
-      λ _. rw (z, e .0) (cell-next (l .loop2 .work) (l .loop2 .p) (v .vertex .result) (n .room)),
+    let e = rw (v .before .before .before .before .line-before2 .ensures) at (v .vertex2 .ensures) in
+    filled-next g _ (l .loop2 .work) (l .loop2 .p) 0 (l .loop2 .b) (l .loop2 .inv .3) (s .pre .some-columns) (u .loop2-test .taken) (l .loop2 .inv .2)
+    (v .vertex2 .result) _ (e .0) (e .1) (e .2)
+
+loop3-holds : tie.Need-loop3-holds Inv-loop μ-loop Inv-loop3 μ-loop3 Inv-loop2 μ-loop2
+loop3-holds c =
+    let l = c .before .before .before .before .before .before .before .before in
+    let s = l .before .before .before .before .before .before in
+    let g = s .args .t2 in
+    let n = column-done c in (
+      omega arith,
+      s .pre .some-columns,
+      omega (arith, l .loop2 .inv .2, position-plus (g .w) 1 (l .loop2 .b)),
+      filled-again _ _ _ _ (n .0),
+      n .1,
     )
 
-add-b : tie.Need-add-b Inv-loop2 μ-loop2 Inv-loop μ-loop
-add-b c = search needs
+line-before-requires-3 : tie.Need-line-before-requires-3 Inv-loop μ-loop Inv-loop3 μ-loop3 Inv-loop2 μ-loop2
+line-before-requires-3 c κs = search needs
 
-loop-less : tie.Need-loop-less Inv-loop2 μ-loop2 Inv-loop μ-loop
-loop-less c = search needs
+mul-col-2 : tie.Need-mul-col-2 Inv-loop μ-loop Inv-loop3 μ-loop3 Inv-loop2 μ-loop2
+mul-col-2 c = omega (arith, c .before .before .before .before .before .before .before .before .before .before .before .before .before .before .before .before .before .pre .columns, c .before .loop3-test .taken)
 
-loop-again : tie.Need-loop-again Inv-loop2 μ-loop2 Inv-loop μ-loop
-loop-again c =
+element-copy-out-col-2 : tie.Need-element-copy-out-col-2 Inv-loop μ-loop Inv-loop3 μ-loop3 Inv-loop2 μ-loop2
+element-copy-out-col-2 c = omega (arith, c .before .before .before .before .before .before .before .before .before .before .before .before .before .before .before .before .before .pre .columns, c .before .loop3-test .taken)
+
+mul-left-2 : tie.Need-mul-left-2 Inv-loop μ-loop Inv-loop3 μ-loop3 Inv-loop2 μ-loop2
+mul-left-2 c = omega (arith, c .before .before .before .before .before .before .before .before .before .before .before .before .before .before .before .before .before .before .pre .columns, c .before .before .loop3-test .taken, c .before .line-before3 .ensures)
+
+element-copy-out-left-2 : tie.Need-element-copy-out-left-2 Inv-loop μ-loop Inv-loop3 μ-loop3 Inv-loop2 μ-loop2
+element-copy-out-left-2 c = omega (arith, c .before .before .before .before .before .before .before .before .before .before .before .before .before .before .before .before .before .before .pre .columns, c .before .before .loop3-test .taken, c .before .line-before3 .ensures)
+
+inner-vertex-requires : tie.Need-inner-vertex-requires Inv-loop μ-loop Inv-loop3 μ-loop3 Inv-loop2 μ-loop2
+inner-vertex-requires c κs =
+    let t = c .before .before .before .before in
+    let l = t .before in
+    let u = l .before .before .before .before .before .before .before .before in
+    let o = u .before in
+    let s = o .before .before .before .before .before .before in
+    let g = s .args .t2 in
+    let F = l .loop3 .inv .3 in
+    let e = l .loop3 .inv .2 in (
+      near _ _ _ (F .fit) (F .done) hor _ _ (t .loop3-test .taken) (u .loop2-test .taken) e,
+      near _ _ _ (F .fit) (F .done) ver _ _ (u .loop2-test .taken) (t .loop3-test .taken) e,
+      l .loop3 .inv .4,
+      l .loop3 .inv .0,
+      o .loop2 .inv .0,
+      s .pre .some-columns,
+      omega (arith, e, l .loop3 .inv .0, position-behind (g .w) (l .loop3 .a) (o .loop2 .b) (o .loop2 .inv .0)),
+    )
+
+add-p-3 : tie.Need-add-p-3 Inv-loop μ-loop Inv-loop3 μ-loop3 Inv-loop2 μ-loop2
+add-p-3 c =
+    let t = c .before .before .before .before .before .before .before in
+    let l = t .before in
+    let u = l .before .before .before .before .before .before .before .before in
+    let s = u .before .before .before .before .before .before .before in
+    omega (arith, position-few (s .args .t2) _ _ (l .loop3 .p) (l .loop3 .a) (u .before .loop2 .b) (l .loop3 .inv .3) (t .loop3-test .taken) (u .loop2-test .taken) (l .loop3 .inv .2))
+
+add-a : tie.Need-add-a Inv-loop μ-loop Inv-loop3 μ-loop3 Inv-loop2 μ-loop2
+add-a c = omega (arith, c .before .before .before .before .before .before .before .before .before .before .before .before .before .before .before .before .before .before .before .before .before .before .before .pre .columns, c .before .before .before .before .before .before .before .loop3-test .taken)
+
+loop3-less : tie.Need-loop3-less Inv-loop μ-loop Inv-loop3 μ-loop3 Inv-loop2 μ-loop2
+loop3-less c = omega (arith, c .before .before .before .before .before .before .before .loop3-test .taken)
+
+loop3-again : tie.Need-loop3-again Inv-loop μ-loop Inv-loop3 μ-loop3 Inv-loop2 μ-loop2
+loop3-again c =
+    let v = c .before .before in
+    let t = v .before .before .before .before .before in
+    let l = t .before in
+    let u = l .before .before .before .before .before .before .before .before in
+    let o = u .before in
+    let s = o .before .before .before .before .before .before in
+    let g = s .args .t2 in
+    let e = rw (v .before .before .before .before .line-before3 .ensures, l .before .before .before .before .before .before .before .line-before2 .ensures) at (v .inner-vertex .ensures) in
+    let n = filled-next g _ (l .loop3 .work) (l .loop3 .p) (l .loop3 .a) (o .loop2 .b) (l .loop3 .inv .3) (t .loop3-test .taken) (u .loop2-test .taken) (l .loop3 .inv .2)
+    (v .inner-vertex .result) _ (e .0) (e .1) (e .2) in (
+      omega arith,
+      omega (arith, t .loop3-test .taken),
+      rw (add-one (l .loop3 .a), position-next (g .w) (l .loop3 .a) (o .loop2 .b), ← l .loop3 .inv .2) (add-one (l .loop3 .p)),
+      n .0,
+      n .1,
+    )
+
+add-b : tie.Need-add-b Inv-loop μ-loop Inv-loop3 μ-loop3 Inv-loop2 μ-loop2
+add-b c = omega (arith, c .before .before .before .before .before .before .before .before .before .before .before .before .before .before .before .before .pre .rows, c .before .before .before .before .before .before .before .before .before .loop2-test .taken)
+
+loop2-less : tie.Need-loop2-less Inv-loop μ-loop Inv-loop3 μ-loop3 Inv-loop2 μ-loop2
+loop2-less c = omega (arith, c .before .before .before .before .before .before .before .before .before .loop2-test .taken)
+
+loop2-again : tie.Need-loop2-again Inv-loop μ-loop Inv-loop3 μ-loop3 Inv-loop2 μ-loop2
+loop2-again c =
     let l = c .before in
-    let o = l .before .before .before .before .before in
-    let g = o .before .before .args .t2 in
-    let e : l .loop2 .a ≡ g .w = omega arith in (
-      search needs,
-      l .loop2 .inv .1 ∙ ap (λ a. position (g .w) a (o .loop .b)) e ∙ position-end (g .w) (o .loop .b) ∙ ap (position (g .w) 0) (sym (add-one (o .loop .b))),
-      l .loop2 .inv .2,
-      beyond-more _ _ _ _ _ (omega (arith, o .loop .inv .1, l .loop2 .inv .1, position-plus (g .w) (l .loop2 .a) (o .loop .b))) (o .loop .inv .3) (l .loop2 .inv .3),
+    let d = l .before in
+    let u = d .before .before .before .before .before .before .before in
+    let o = u .before in
+    let s = o .before .before .before .before .before .before in
+    let g = s .args .t2 in
+    let e : l .loop3 .a ≡ g .w = omega (arith, c .loop3-test .left, l .loop3 .inv .1) in (
+      omega arith,
+      omega (arith, u .loop2-test .taken),
+      l .loop3 .inv .2 ∙ ap (λ a. position (g .w) a (o .loop2 .b)) e ∙ position-end (g .w) (o .loop2 .b) ∙ ap (position (g .w) 0) (sym (add-one (o .loop2 .b))),
+      filled-more _ _ _ _ _ _
+          (omega (arith, o .loop2 .inv .2, l .loop3 .inv .2, l .loop3 .inv .0, position-plus (g .w) (l .loop3 .a) (o .loop2 .b)))
+          (column-done d .0) (l .loop3 .inv .3),
     )
 
-same-length : tie.Need-same-length Inv-loop2 μ-loop2 Inv-loop μ-loop
-same-length c = c .before .loop .inv .3 .size
+same-length : tie.Need-same-length Inv-loop μ-loop Inv-loop3 μ-loop3 Inv-loop2 μ-loop2
+same-length c = c .before .loop2 .inv .3 .beyond .size ∙ c .before .before .before .loop .inv .1 .beyond .size
 
-returns : tie.Need-returns Inv-loop2 μ-loop2 Inv-loop μ-loop
+returns : tie.Need-returns Inv-loop μ-loop Inv-loop3 μ-loop3 Inv-loop2 μ-loop2
 returns c =
-    let l = c .before .loop in
-    let s = c .before .before .before in
-    let e : l .b ≡ s .args .t2 .h = omega arith in
-    let f : l .p ≡ s .args .t2 .h * s .args .t2 .w = l .inv .1 ∙ position-first (s .args .t2 .w) (l .b) ∙ ap (λ n. n * s .args .t2 .w) e in
-    (done-all (s .args .t2) _ (rw f at (l .inv .2)), rw (← f) (l .inv .3))
+    let l = c .before .loop2 in
+    let o = c .before .before .before in
+    let s = o .before .before .before .before in
+    let g = s .args .t2 in
+    let e : l .b ≡ g .h = omega (arith, c .loop2-test .left, l .inv .1) in
+    let f : l .p ≡ g .h * g .w = l .inv .2 ∙ position-first (g .w) (l .b) ∙ ap (λ n. n * g .w) e in
+    let F = filled-more _ _ _ _ _ _ (omega (arith, l .inv .0, position-behind (g .w) 0 (l .b) (l .inv .0), l .inv .2, o .loop .inv .0)) (o .loop .inv .1) (l .inv .3) in
+    (done-all g _ (rw f at (F .done)), rw (← f) (F .beyond))
 
 pub fill-spec : {M : Type 1} → statement M
 fill-spec =
     tie.close
     (tie.spec
-    Inv-loop2
-    μ-loop2
     Inv-loop
     μ-loop
+    Inv-loop3
+    μ-loop3
+    Inv-loop2
+    μ-loop2
+    element-copy-out-first
+    element-copy-out-base
     loop-holds
     line-before-requires
-    mul-row
-    element-copy-out-row
-    mul-below
-    element-copy-out-below
-    loop2-holds
-    line-before-requires-2
     mul-col
     element-copy-out-col
     mul-left
     element-copy-out-left
     vertex-requires
     add-p
-    add-a
-    loop2-less
-    loop2-again
-    add-b
     loop-less
     loop-again
+    loop2-holds
+    line-before-requires-2
+    mul-row
+    element-copy-out-row
+    mul-below
+    element-copy-out-below
+    vertex-requires-2
+    add-p-2
+    loop3-holds
+    line-before-requires-3
+    mul-col-2
+    element-copy-out-col-2
+    mul-left-2
+    element-copy-out-left-2
+    inner-vertex-requires
+    add-p-3
+    add-a
+    loop3-less
+    loop3-again
+    add-b
+    loop2-less
+    loop2-again
     same-length
     returns)
