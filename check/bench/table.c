@@ -305,7 +305,8 @@ static void fill_edge(const struct frame *f, uint32_t *table, int a, int b, int 
     to[1] = run;
 }
 
-static uint32_t fill(const struct frame *f, uint32_t *table)
+/* This and trace are inlined in each caller: the compiler then sees that frame and table lie apart. */
+static inline __attribute__((always_inline)) uint32_t fill(const struct frame *f, uint32_t *table)
 {
     for (int b = 0; b < f->h; b++)
         for (int a = 0; a < f->w; a++) {
@@ -326,7 +327,7 @@ static int entered_by(const struct frame *f, uint32_t *table, int a, int b, uint
 }
 
 /* The steps of a best walk, from the end back to the start, with the leaf that shares each. */
-static void trace(const struct frame *f, uint32_t *table, struct steps *steps)
+static inline __attribute__((always_inline)) void trace(const struct frame *f, uint32_t *table, struct steps *steps)
 {
     int a = f->w - 1, b = f->h - 1;
     steps->count = a + b;
@@ -509,6 +510,19 @@ static size_t write_plan(const struct job *job, const struct frame *f, const str
     return length;
 }
 
+/* Reads a job book and makes the centre's frame; 0, or the refusal number. */
+static int survey(struct job *job, struct frame *frame, const uint8_t *bytes, size_t length)
+{
+    int refused = read_job(job, bytes, length);
+    if (refused)
+        return refused;
+    lay_grid(job);
+    if (!find_centre(job))
+        return 11;
+    make_frame(job, frame);
+    return 0;
+}
+
 static int32_t plan(const uint8_t *bytes, size_t length, uint32_t *table, uint8_t *out, size_t out_len)
 {
     struct job job;
@@ -516,13 +530,9 @@ static int32_t plan(const uint8_t *bytes, size_t length, uint32_t *table, uint8_
     struct steps steps;
     if (out_len < PLAN_ROOM)
         return -2;
-    int refused = read_job(&job, bytes, length);
+    int refused = survey(&job, &frame, bytes, length);
     if (refused)
         return -refused;
-    lay_grid(&job);
-    if (!find_centre(&job))
-        return -11;
-    make_frame(&job, &frame);
     uint32_t best = fill(&frame, table);
     trace(&frame, table, &steps);
     return (int32_t)write_plan(&job, &frame, &steps, best - 1, out);
@@ -543,4 +553,47 @@ int32_t table_plan_clearing(const uint8_t *job, size_t job_len, uint8_t *out, si
     int32_t answer = plan(job, job_len, table, out, out_len);
     clear(table, 0, sizeof table);
     return answer;
+}
+
+/* ---- the table alone ---- */
+
+static void put_lines(struct sink *s, const uint32_t *on, const uint32_t *over, const uint32_t *step)
+{
+    for (int i = 0; i < MOST_LINES; i++) {
+        put_word(s, on[i]);
+        put_word(s, i == 0 ? 0 : over[i - 1]);
+        put_word(s, i == 0 ? 0 : step[i - 1]);
+    }
+}
+
+size_t table_frame(const uint8_t *job, size_t job_len, uint32_t rounds, uint8_t out[TABLE_FRAME])
+{
+    struct job read;
+    struct frame f;
+    struct sink s = { .bytes = out, .length = 0 };
+    if (survey(&read, &f, job, job_len))
+        return 0;
+    put_word(&s, rounds);
+    s.bytes[s.length++] = (uint8_t)(f.w - 1);
+    s.bytes[s.length++] = (uint8_t)(f.h - 1);
+    put_word(&s, f.cross);
+    put_lines(&s, f.on_column, f.over_column, f.step_right);
+    put_lines(&s, f.on_row, f.over_row, f.step_up);
+    return s.length;
+}
+
+uint32_t table_rounds(const uint8_t *job, size_t job_len, uint32_t rounds, uint32_t *sum)
+{
+    struct job read;
+    struct frame f;
+    struct steps steps = { .count = 0 };
+    uint32_t table[WORDS], best = 1, all = 0;
+    if (survey(&read, &f, job, job_len) == 0)
+        for (uint32_t i = 0; i < rounds; i++) {
+            best = fill(&f, table);
+            trace(&f, table, &steps);
+            all = (all + steps.leaf[0] + 64u * steps.up[0]) % 65536;
+        }
+    *sum = all;
+    return best - 1;
 }

@@ -13,6 +13,8 @@ unsafe extern "C" {
     fn trench_plan(job: *const u8, job_len: usize, out: *mut u8, out_len: usize) -> i32;
     fn table_plan(job: *const u8, job_len: usize, out: *mut u8, out_len: usize) -> i32;
     fn table_plan_clearing(job: *const u8, job_len: usize, out: *mut u8, out_len: usize) -> i32;
+    fn table_frame(job: *const u8, job_len: usize, rounds: u32, out: *mut u8) -> usize;
+    fn table_rounds(job: *const u8, job_len: usize, rounds: u32, sum: *mut u32) -> u32;
     fn stray_write_before(job: *const u8, job_len: usize, out: *mut u8, out_len: usize) -> i32;
     fn stray_write_behind(job: *const u8, job_len: usize, out: *mut u8, out_len: usize) -> i32;
     fn stray_write_job(job: *const u8, job_len: usize, out: *mut u8, out_len: usize) -> i32;
@@ -70,6 +72,25 @@ pub fn plan(function: Function, job: &[u8], out: &mut [u8]) -> i32 {
     // SAFETY: the function reads `job.len()` bytes of job and reads and writes `out.len()` bytes of out; both slices are
     // alive and do not overlap, since one of them is borrowed mutably.
     unsafe { function.pointer()(job.as_ptr(), job.len(), out.as_mut_ptr(), out.len()) }
+}
+
+/// Bytes of a record that the program `table_rounds` reads.
+const FRAME: usize = 1546;
+
+/// So many rounds and the frame of the job's centre, as the program `table_rounds` reads them; none where the job is refused.
+pub fn frame_of(job: &[u8], rounds: u32) -> Option<[u8; FRAME]> {
+    let mut out = [0; FRAME];
+    // SAFETY: the function reads `job.len()` bytes of job and writes at most FRAME bytes of out; both are alive and apart.
+    let length = unsafe { table_frame(job.as_ptr(), job.len(), rounds, out.as_mut_ptr()) };
+    (length == FRAME).then_some(out)
+}
+
+/// Fills the plain C planner's table of a job and traces the walk in it so many times: what is saved, and a sum over the walks.
+pub fn rounds_in_c(job: &[u8], rounds: u32) -> (u32, u32) {
+    let mut sum = 0;
+    // SAFETY: the function reads `job.len()` bytes of job and writes one word; both are alive and apart.
+    let saved = unsafe { table_rounds(job.as_ptr(), job.len(), rounds, &mut sum) };
+    (saved, sum)
 }
 
 const PAGE: usize = 4096;

@@ -1,9 +1,12 @@
-//! The benchmark: the archive's planner, the plain C planner and the independent planner on the same jobs, in one run.
+//! The benchmark: the archive's planner, the plain C planner and the independent planner on the same jobs, in one run. Its
+//! argument is the program `table_rounds`, with which filling and tracing alone are timed.
 
 use std::hint::black_box;
+use std::path::Path;
 use std::time::Instant;
 
-use trench_archive::call::{Function, plan};
+use trench_archive::call::{Function, frame_of, plan, rounds_in_c};
+use trench_archive::program::table_figure;
 use trench_check::book::job_bytes;
 use trench_check::generate::spread_star;
 use trench_check::plan_book::PlanBook;
@@ -19,6 +22,13 @@ const ROUNDS: usize = 40;
 /// Calls for each job of a round.
 const CALLS: usize = 4;
 
+/// Jobs of 32 runs for which filling and tracing alone are timed.
+const TABLES: usize = 8;
+/// Rounds of the two calls whose times are compared, and how often these are made.
+const FEW: u32 = 1;
+const MANY: u32 = 2_001;
+const REPEATS: usize = 40;
+
 const NOTE: &str = "\
 Microseconds a job: the quickest of 40 rounds over the same 16 jobs of each size. The planners take turns in each round.
 Each job is a star of so many runs on a grid of twice as many columns and rows, all of it in the centre's box.
@@ -27,6 +37,12 @@ Plan buffers are not cleared between calls. `proved` has its 16,384 work words s
 every call, as its promise says; `C` clears nothing; `C clearing` clears the same words, also before and after.
 `proved` is the archive's planner; `C` is bench/table.c, the same table algorithm, by cc -O3; `independent` is the planner of
 this folder, which enumerates small jobs and takes the in-out graph for all.";
+
+const TABLE_NOTE: &str = "\
+Filling the table and tracing the walk alone, for the first 8 of the jobs of 32 runs (64 x 64 lines), in microseconds a round.
+`proved` is the program crates/table_rounds, which calls the planner's `fill` and `trace_of` and is timed from outside, as a
+process; `C` is the same work by bench/table.c, called in the benchmark. A round is what 2,001 rounds take more than 1, by the
+quickest of 40 runs of each, divided by 2,000. They take turns, and neither clears the table between rounds.";
 
 fn main() {
     println!("{NOTE}\n");
@@ -50,12 +66,60 @@ fn main() {
             at(from).iter().zip(at(to)).map(|(less, more)| format!("x {:.1}", more / less)).collect();
         println!("| {from} | {to} | {} |", factors.join(" | "));
     }
+    println!();
+    let program = std::env::args().nth(1).unwrap_or_default();
+    if Path::new(&program).is_file() {
+        tables(&program);
+    } else {
+        println!(
+            "There is no program {program} (`rt check table_rounds` makes it): filling and tracing alone is not timed."
+        );
+    }
+}
+
+/// Times filling and tracing alone.
+fn tables(program: &str) {
+    println!("{TABLE_NOTE}\n");
+    println!("| job | proved | C | proved / C |");
+    println!("|---:|---:|---:|---:|");
+    let mut sums = [0.0; 2];
+    for (at, job) in books(32).iter().take(TABLES).enumerate() {
+        let times = table(program, job);
+        sums = [sums[0] + times[0], sums[1] + times[1]];
+        print_table(&(at + 1).to_string(), times);
+    }
+    print_table("mean", sums.map(|sum| sum / TABLES as f64));
+}
+
+fn print_table(name: &str, [proved, in_c]: [f64; 2]) {
+    println!("| {name} | {proved:.2} | {in_c:.2} | {:.2} |", proved / in_c);
+}
+
+/// Microseconds a round of filling and tracing for a job: the proved program's, and the plain C planner's.
+fn table(program: &str, job: &[u8]) -> [f64; 2] {
+    let mut quickest = [[f64::INFINITY; 2]; 2];
+    for _ in 0..REPEATS {
+        for (size, rounds) in [FEW, MANY].into_iter().enumerate() {
+            let frame = frame_of(job, rounds).expect("a star");
+            let start = Instant::now();
+            let proved = table_figure(program, &frame).unwrap_or_else(|error| panic!("{program}: {error}"));
+            let between = Instant::now();
+            let (in_c, _) = black_box(rounds_in_c(black_box(job), rounds));
+            let times = [between - start, between.elapsed()].map(|time| time.as_secs_f64() * 1e6);
+            assert_eq!(proved, Some(in_c), "what both save");
+            quickest[size] = [0, 1].map(|who| times[who].min(quickest[size][who]));
+        }
+    }
+    [0, 1].map(|who| (quickest[1][who] - quickest[0][who]) / f64::from(MANY - FEW))
+}
+
+fn books(runs: usize) -> Vec<Vec<u8>> {
+    (0..JOBS).map(|n| job_bytes(&spread_star(&mut Random::nth(runs as u64, n), runs))).collect()
 }
 
 /// Microseconds a job for each planner on jobs of so many runs.
 fn row(runs: usize) -> [f64; 4] {
-    let books: Vec<Vec<u8>> =
-        (0..JOBS).map(|n| job_bytes(&spread_star(&mut Random::nth(runs as u64, n), runs))).collect();
+    let books = books(runs);
     let mut out = vec![0; PLAN_ROOM];
     let mut times: [Vec<f64>; 4] = Default::default();
     for _ in 0..ROUNDS {

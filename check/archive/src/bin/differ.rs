@@ -1,17 +1,20 @@
-//! Compares the archive's planner, or a listing program, with the independent reading on many jobs. Exit status 1 where
-//! anything differs.
+//! Compares the archive's planner, or a listing program, or the table program, with the independent reading on many jobs. Exit
+//! status 1 where anything differs.
 
-use std::io::Write;
-use std::process::{Command, ExitCode, Stdio};
+use std::process::ExitCode;
 use std::time::{Instant, SystemTime, UNIX_EPOCH};
 
-use trench_archive::call::{Against, Function, Guarded};
+use trench_archive::call::{Against, Function, Guarded, frame_of};
+use trench_archive::program::{printed_by, table_figure};
 use trench_check::compare::{Report, case, try_cases, try_listing};
+use trench_check::planner::plan_surveyed;
+use trench_check::refusal::surveyed;
 
 const USAGE: &str = "\
 usage: differ [--table] JOBS          so many jobs of the fixed seed, and as many of a fresh one, which is printed
        differ [--table] SEED FROM TO  the jobs FROM to TO - 1 of a seed; each is named before it is tried
        differ --listing PROGRAM JOBS  the same jobs for a program that reads a job book and prints its listing
+       differ --rounds PROGRAM JOBS   the same jobs for the program `table_rounds`
 --table tries the plain C planner in place of the archive's";
 
 /// The seed that every run starts with.
@@ -24,6 +27,7 @@ fn main() -> ExitCode {
     let words: Vec<&str> = words.iter().map(String::as_str).collect();
     let good = match words[..] {
         ["--listing", program, jobs] => numbers(&[jobs]).map(|n| seeds(n[0], |seed, jobs| listed(program, seed, jobs))),
+        ["--rounds", program, jobs] => numbers(&[jobs]).map(|n| seeds(n[0], |seed, jobs| filled(program, seed, jobs))),
         ["--table", ref rest @ ..] => numbers(rest).and_then(|numbers| compared(Function::Table, &numbers)),
         ref all => numbers(all).and_then(|numbers| compared(Function::Archive, &numbers)),
     };
@@ -90,12 +94,31 @@ fn listed(program: &str, seed: u64, jobs: u64) -> Report {
     report
 }
 
-fn printed_by(program: &str, input: &[u8]) -> std::io::Result<String> {
-    let mut child = Command::new(program).stdin(Stdio::piped()).stdout(Stdio::piped()).spawn()?;
-    // A program that has read enough may close its input early, and the write then fails.
-    let _ = child.stdin.take().expect("a pipe").write_all(input);
-    let output = child.wait_with_output()?;
-    Ok(String::from_utf8_lossy(&output.stdout).into_owned())
+/// Has a program fill and trace the tables of the first jobs of a seed: it must save what the independent planner saves.
+fn filled(program: &str, seed: u64, jobs: u64) -> Report {
+    let mut report = Report::default();
+    for n in 0..jobs {
+        let case = case(seed, n);
+        let due = match surveyed(&case.bytes) {
+            Ok(survey) => {
+                *report.accepted.entry(survey.job.runs.len()).or_default() += 1;
+                plan_surveyed(&survey).map(|plan| plan.saved)
+            }
+            Err(refused) => {
+                *report.refused.entry(refused.number).or_default() += 1;
+                None
+            }
+        };
+        let frame = frame_of(&case.bytes, 2);
+        let figure = frame.and_then(|frame| table_figure(program, &frame).unwrap_or_else(|e| panic!("{program}: {e}")));
+        let saved = figure.map(i64::from);
+        if saved != due {
+            report.faults.push(format!("seed {seed} job {n}: {}: {saved:?} is saved, and {due:?} is due", case.what));
+        }
+        report.jobs += 1;
+        report.calls += usize::from(frame.is_some());
+    }
+    report
 }
 
 fn one_by_one(function: Function, seed: u64, from: u64, to: u64) -> bool {

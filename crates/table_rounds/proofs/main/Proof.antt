@@ -1,0 +1,49 @@
+-- `table_rounds::main` is safe: the work words are still 16,384 when the figure is read.
+use borrow.Author.Needs.{needs}
+use Rattle.table_rounds.proofs.main.Statement.{statement}
+use Rattle.table_rounds.proofs.main.Tie as tie
+
+slice-aggregate-read-full : tie.Need-slice-aggregate-read-full
+slice-aggregate-read-full c = search needs
+
+read-full-requires : tie.Need-read-full-requires
+read-full-requires c κs = search needs
+
+word-at-requires : tie.Need-word-at-requires
+word-at-requires c κs = search needs
+
+group-of-requires : tie.Need-group-of-requires
+group-of-requires c κs = search needs
+
+slice-aggregate-go-round : tie.Need-slice-aggregate-go-round
+slice-aggregate-go-round c = search needs
+
+go-round-requires : tie.Need-go-round-requires
+go-round-requires c κs = search needs
+
+slice-aggregate-figure-of : tie.Need-slice-aggregate-figure-of
+slice-aggregate-figure-of c = search needs
+
+figure-of-requires : tie.Need-figure-of-requires
+figure-of-requires c κs = c .before .before .before .before .group-of .ensures _ (search needs)
+
+print-requires : tie.Need-print-requires
+print-requires c κs = search needs
+
+returns : tie.Need-returns
+returns c = search needs
+
+pub main-spec : {M : Type 1} → statement M
+main-spec =
+    tie.close
+    (tie.spec
+    slice-aggregate-read-full
+    read-full-requires
+    word-at-requires
+    group-of-requires
+    slice-aggregate-go-round
+    go-round-requires
+    slice-aggregate-figure-of
+    figure-of-requires
+    print-requires
+    returns)

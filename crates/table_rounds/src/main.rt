@@ -1,0 +1,118 @@
+// Fills one table and traces the walk in it, as often as the record on standard input says, and prints what the best walk shares and a sum over
+// the walks: for who times it. The record has 1,546 bytes; those that are missing count as 0.
+//
+//     0     rounds, a word, modulo 1,048,576
+//     4     columns of the frame less 1, modulo 64
+//     5     rows of the frame less 1, modulo 64
+//     6     the leaves that slope the other way than the centre, a word
+//     10    64 columns, each three words: leaves on it, leaves on it and on the line before it, length from that line modulo 2,000,001
+//     778   64 rows, the same
+use libc::STDIN_FILENO;
+use libc::STDOUT_FILENO;
+use table::frame::Group;
+use table::frame::Line;
+ghost use mathlib.Core.Path.{_≡_};
+ghost use mathlib.Core.List.{List};
+ghost use Prim.Native.Nat.{ℕ, _+_, _≤_, _<_};
+ghost use lib.ListN.{length, getD};
+ghost use Rattle.table.specs.Frame.{blank};
+ghost use Rattle.table.specs.Rule.{Fit};
+
+fn wide(b: u8) -> u32
+    ensures { λ r. ⌜ r < 256 ⌝ }
+{
+    b as u32
+}
+
+// The word at a place of the record, the lowest byte first.
+fn word_at(bytes: &[u8; 1546], at: usize) -> u32
+    requires { ⌜ at + 4 ≤ 1546 ⌝ }
+{
+    let low = wide(bytes[at]) + 256 * wide(bytes[at + 1]);
+    let high = wide(bytes[at + 2]) + 256 * wide(bytes[at + 3]);
+    low + 65536 * high
+}
+
+// The line at a place of the record.
+fn line_at(bytes: &[u8; 1546], at: usize) -> Line
+    requires { ⌜ at + 12 ≤ 1546 ⌝ }
+    ensures { λ r. ⌜ r .len ≤ 2000000 ⌝ }
+{
+    Line {
+        on: word_at(bytes, at),
+        into: word_at(bytes, at + 4),
+        len: word_at(bytes, at + 8) % 2000001,
+    }
+}
+
+// The 64 lines from a place of the record on.
+fn lines_at(bytes: &[u8; 1546], at: usize) -> [Line; 64]
+    requires { ⌜ at + 768 ≤ 1546 ⌝ }
+    ensures { λ r. ⌜ ((i : ℕ) → i < 64 → getD r i blank .len ≤ 2000000) ⌝ }
+{
+    let mut lines = [Line {
+        on: 0,
+        into: 0,
+        len: 0,
+    }; 64];
+    let mut i: usize = 0;
+    while i < 64 {
+        lines[i] = line_at(bytes, at + 12 * i);
+        i += 1;
+    }
+    lines
+}
+
+// The count at a place of the record.
+fn count_at(bytes: &[u8; 1546], at: usize) -> usize
+    requires { ⌜ at < 1546 ⌝ }
+    ensures { λ r. ⌜ (1 ≤ r) × (r ≤ 64) ⌝ }
+{
+    1 + (bytes[at] % 64) as usize
+}
+
+// The group that the record holds: its table fits 16,384 words.
+fn group_of(bytes: &[u8; 1546]) -> Group
+    ensures { λ r. ⌜ ((words : List ℕ) → 16384 ≤ length words → Fit r words) ⌝ }
+{
+    Group {
+        cols: lines_at(bytes, 10),
+        rows: lines_at(bytes, 778),
+        cross: word_at(bytes, 6),
+        w: count_at(bytes, 4),
+        h: count_at(bytes, 5),
+    }
+}
+
+// Fills and traces so many times. The sum has each walk's first step, which is found last.
+fn go_round(work: &mut [u32], g: Group, rounds: u32) -> u32
+    requires { ⌜ (16384 ≤ length (now work)) × ((words : List ℕ) → 16384 ≤ length words → Fit g words) ⌝ }
+    ensures { λ _. ⌜ length (now (work .exit)) ≡ length (now (work .entry)) ⌝ }
+{
+    let mut sum: u32 = 0;
+    let mut i: u32 = 0;
+    while i < rounds {
+        table::fill::fill(work, g);
+        let t = table::trace::trace_of(&*work, g);
+        sum = (sum + wide(t.shares[0]) + 64 * wide(t.steps[0])) % 65536;
+        i += 1;
+    }
+    sum
+}
+
+fn print(figure: u32, sum: u32) {
+    io::print_decimal(STDOUT_FILENO, figure as u64);
+    io::write_all(STDOUT_FILENO, b" ");
+    io::print_decimal(STDOUT_FILENO, sum as u64);
+    io::write_all(STDOUT_FILENO, b"\n");
+}
+
+fn main() {
+    let mut bytes = [0u8; 1546];
+    io::read_full(STDIN_FILENO, &mut bytes);
+    let rounds = word_at(&bytes, 0) % 1048576;
+    let g = group_of(&bytes);
+    let mut work = [0u32; 16384];
+    let sum = go_round(&mut work, g, rounds);
+    print(table::fill::figure_of(&work, g), sum);
+}
