@@ -56,9 +56,13 @@ x-count : (l : List Read) → (length (xs (runsOf l)) ≡ length l + length l) �
 x-count [] = (refl, refl)
 x-count (r ∷ l) = omega (arith, x-count l)
 
--- a job has at most 64 columns and 64 rows
+-- a job has at most two columns and two rows a run
+pub lines-most : (l : List Read) → (length (hanan (runsOf l) .columns) ≤ length l + length l) × (length (hanan (runsOf l) .rows) ≤ length l + length l)
+lines-most l = omega (arith, x-count l, length-distinct (xs (runsOf l)), length-distinct (ys (runsOf l)))
+
+-- so at most 64 columns and 64 rows
 pub few-lines : (l : List Read) → length l ≤ 32 → (length (hanan (runsOf l) .columns) ≤ 64) × (length (hanan (runsOf l) .rows) ≤ 64)
-few-lines l h = omega (arith, x-count l, length-distinct (xs (runsOf l)), length-distinct (ys (runsOf l)))
+few-lines l h = omega (arith, lines-most l)
 
 -- ---- corners
 

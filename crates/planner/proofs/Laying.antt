@@ -1,16 +1,17 @@
 -- From the table and its walk to routes that save the most: what the stages of `lay` promise, put together.
 use mathlib.Core.Path.{_≡_, sym, _∙_, subst}
 use mathlib.Core.List.{List}
-use Prim.Native.Nat.{ℕ, _*_, _≤_, _<_}
-use native.Mathlib.Nat.{mul-le-mul}
+use Prim.Native.Nat.{ℕ, _+_, _*_, _≤_, _<_}
+use native.Mathlib.Nat.{le-trans, mul-le-mul, mul-le-mul-right}
 use native.Mathlib.Omega.{arith}
 use lib.ListN.{length, getD}
 use lib.Seq.{length-take-le}
 use Rattle.network.specs.Plane.{Run}
 use Rattle.network.specs.Hanan.{hanan}
-use Rattle.network.specs.Steps.{hor, ver}
+use Rattle.network.specs.Steps.{Dir, hor, ver}
 use Rattle.sharing.specs.Table.{Table}
 use Rattle.sharing.specs.Star.{Centred}
+use Rattle.sharing.specs.View.{lines}
 use Rattle.table.specs.declared.side.Side.{Side}
 use Rattle.table.specs.declared.frame.Group.{Group}
 use Rattle.table.specs.Side.{firstOf, secondOf, Placed}
@@ -28,7 +29,8 @@ use Rattle.layout.specs.Laid.{unlaid, AllLayable, AllLaid}
 use Rattle.layout.proofs.Lists.{all-taken}
 use Rattle.layout.proofs.Fitting.{traced-layable}
 use Rattle.layout.proofs.Drawing.{laid-on-grid, laid-best}
-use Rattle.planner.specs.Stages.{StarSurveyed, LaidOut}
+use Rattle.planner.specs.Stages.{tableWords, StarSurveyed, LaidOut}
+use Rattle.planner.proofs.Planned.{words-most}
 
 module _ (runs : List Run) (xs ys : Side) (n c leaves : ℕ) (L : StarSurveyed runs xs ys n c leaves) where
   few-runs : n ≤ 32
@@ -37,16 +39,20 @@ module _ (runs : List Run) (xs ys : Side) (n c leaves : ℕ) (L : StarSurveyed r
   in-list : (k : ℕ) → k < n → k < length runs
   in-list k h = omega (arith, L .count)
 
+  -- at most 64 lines
+  lines-few : (d : Dir) → length (lines (hanan runs) d) ≤ 64
+  lines-few d = omega (arith, L .few-lines d, few-runs)
+
   placed-x : Placed xs n
   placed-x k h = (
-    omega (arith, L .surveyed .first-at k (in-list k h) .fits hor, L .few-lines hor),
-    omega (arith, L .surveyed .second-at k (in-list k h) .fits hor, L .few-lines hor),
+    omega (arith, L .surveyed .first-at k (in-list k h) .fits hor, lines-few hor),
+    omega (arith, L .surveyed .second-at k (in-list k h) .fits hor, lines-few hor),
   )
 
   placed-y : Placed ys n
   placed-y k h = (
-    omega (arith, L .surveyed .first-at k (in-list k h) .fits ver, L .few-lines ver),
-    omega (arith, L .surveyed .second-at k (in-list k h) .fits ver, L .few-lines ver),
+    omega (arith, L .surveyed .first-at k (in-list k h) .fits ver, lines-few ver),
+    omega (arith, L .surveyed .second-at k (in-list k h) .fits ver, lines-few ver),
   )
 
   -- what the group asks for
@@ -57,21 +63,23 @@ module _ (runs : List Run) (xs ys : Side) (n c leaves : ℕ) (L : StarSurveyed r
   centred = surveyed-centred (hanan runs) runs xs ys c leaves (L .surveyed) (in-list c (L .listed)) (L .star)
 
   module _ (g : Group) (G : Grouped xs ys n c leaves g) where
-    -- the table takes at most 16,384 words
-    table-room : g .h * g .w * 4 ≤ 16384
+    -- the table takes four words for each vertex, of at most 2 n columns and 2 n rows
+    table-room : g .h * g .w * 4 ≤ tableWords n
     table-room =
-        let w = gap-lt 64 (firstOf xs c) (secondOf xs c) (placed-x c (L .listed) .0) (placed-x c (L .listed) .1) in
-        let h = gap-lt 64 (firstOf ys c) (secondOf ys c) (placed-y c (L .listed) .0) (placed-y c (L .listed) .1) in
-        let wide : g .w ≤ 64 = omega (arith, G .wide) in
-        let high : g .h ≤ 64 = omega (arith, G .high) in
-        omega (arith, mul-le-mul high wide)
+        let m = n + n in
+        let k = in-list c (L .listed) in
+        let w = gap-lt m (firstOf xs c) (secondOf xs c) (omega (arith, L .surveyed .first-at c k .fits hor, L .few-lines hor)) (omega (arith, L .surveyed .second-at c k .fits hor, L .few-lines hor)) in
+        let h = gap-lt m (firstOf ys c) (secondOf ys c) (omega (arith, L .surveyed .first-at c k .fits ver, L .few-lines ver)) (omega (arith, L .surveyed .second-at c k .fits ver, L .few-lines ver)) in
+        let wide : g .w ≤ n + n = omega (arith, G .wide) in
+        let high : g .h ≤ n + n = omega (arith, G .high) in
+        mul-le-mul-right 4 (mul-le-mul high wide)
 
-    pub group-fits : (words : List ℕ) → 16384 ≤ length words → rule.Fit g words
-    group-fits words h = group-fit g xs ys n c leaves words G placed-x placed-y (L .listed) (L .short) (omega (arith, table-room))
+    pub group-fits : (words : List ℕ) → tableWords n ≤ length words → rule.Fit g words
+    group-fits words h = group-fit g xs ys n c leaves words G placed-x placed-y (L .listed) (L .short) (le-trans table-room h)
 
     -- nothing behind the 16,384 words changes
     pub work-beyond : (old new : List ℕ) → Beyond old new (g .h * g .w * 4) → Beyond old new 16384
-    work-beyond old new b = record { size = b .size; same = λ k h. b .same k (omega (arith, table-room)) }
+    work-beyond old new b = record { size = b .size; same = λ k h. b .same k (le-trans table-room (le-trans (words-most n few-runs) h)) }
 
     module _ (words : List ℕ) (R : Ruled g words) where
       G′ : Grouped xs ys (length runs) c leaves g
@@ -84,7 +92,7 @@ module _ (runs : List Run) (xs ys : Side) (n c leaves : ℕ) (L : StarSurveyed r
       pub walk-fits : AllLayable xs ys n c (walked g words)
       walk-fits =
           subst (λ m. AllLayable xs ys m c (walked g words)) (L .count)
-          (traced-layable (hanan runs) runs xs ys c leaves (L .surveyed) (L .few-lines) centred (L .star) T (walked g words)
+          (traced-layable (hanan runs) runs xs ys c leaves (L .surveyed) lines-few centred (L .star) T (walked g words)
           (star-traced (hanan runs) runs xs ys c leaves (L .surveyed) centred g G′ words R))
 
       -- and the routes laid by it save the most
@@ -98,7 +106,7 @@ module _ (runs : List Run) (xs ys : Side) (n c leaves : ℕ) (L : StarSurveyed r
           = subst (λ m. AllLaid xs ys m c (walked g words) routes) (sym (L .count)) laid in
           record {
             best = rw (e ∙ star-figure (hanan runs) runs xs ys c leaves (L .surveyed) centred g G′ words R)
-                (laid-best (hanan runs) runs xs ys c leaves (L .surveyed) (walked g words) (L .few-lines) (in-list c (L .listed)) (L .star) T exact traced routes size all);
+                (laid-best (hanan runs) runs xs ys c leaves (L .surveyed) (walked g words) lines-few (in-list c (L .listed)) (L .star) T exact traced routes size all);
             on-grid = all-taken (OnGrid (hanan runs)) (length runs) routes unlaid size (λ k h.
                 laid-on-grid (pointsOf xs ys c) (pointsOf xs ys k) c (walked g words) k (getD routes k unlaid) (walk-fits .layable k (omega (arith, L .count))) (all .laid k h) (hanan runs)
                 (L .surveyed .first-at k h .fits hor, L .surveyed .second-at k h .fits hor) (L .surveyed .first-at k h .fits ver, L .surveyed .second-at k h .fits ver));

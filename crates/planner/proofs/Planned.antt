@@ -2,9 +2,10 @@
 use mathlib.Core.Path.{_≡_, refl, sym, ap, _∙_, subst}
 use mathlib.Core.Bool.{true}
 use mathlib.Core.List.{List, [], _∷_, _++_}
-use Prim.Native.Nat.{ℕ, _+_, _≤_, _<_}
+use Prim.Native.Nat.{ℕ, _+_, _*_, _≤_, _<_}
+use native.Mathlib.Nat.{mul-le-mul, mul-le-mul-right}
 use native.Mathlib.Omega.{arith}
-use lib.ListN.{length, getD, drop, replicate, length-drop}
+use lib.ListN.{length, getD, drop, replicate, length-drop, length-replicate}
 use lib.Seq.{ext-getD, getD-drop}
 use Rattle.network.specs.Plane.{Run}
 use Rattle.network.specs.Hanan.{hanan}
@@ -17,21 +18,25 @@ use Rattle.intersection.specs.Star.{meetsIn, starOf}
 use Rattle.intersection.specs.declared.Star.the-variants.{Centre}
 use Rattle.intersection.proofs.Stars.{set-joined}
 use Rattle.job.specs.declared.Job.{Job}
+use Rattle.job.specs.declared.Refusal.{Refusal}
+use Rattle.job.specs.Parse.{Parsed, accepted, refused, parse}
 use Rattle.table.specs.Rule.{Beyond}
 use Rattle.table.proofs.Star.{Surveyed}
 use Rattle.table.proofs.Survey.{surveyed, short}
 use Rattle.plan.specs.Bytes.{over, Wrote}
-use Rattle.planner.specs.declared.Answer.the-variants.{Planned}
+use Rattle.planner.specs.declared.Answer.{Answer}
+use Rattle.planner.specs.declared.Answer.the-variants.{Planned, Refused}
 use Rattle.planner.specs.declared.star.Survey.{Survey}
 use Rattle.planner.specs.declared.star.Layout.{Layout}
-use Rattle.planner.specs.Verdict.{runsOf, centresOf}
-use Rattle.planner.specs.Outcome.{planOf, Plans}
+use Rattle.planner.specs.Verdict.{runsOf, centresOf, judged, verdict}
+use Rattle.planner.specs.Outcome.{planOf, Outcome}
 use Rattle.planner.specs.Held.{runsIn}
-use Rattle.planner.specs.Stages.{Starred, Surveys, StarSurveyed, LaidOut, Lined, drawnBy}
+use Rattle.planner.specs.Stages.{tableWords, Enough, Starred, Surveys, StarSurveyed, LaidOut, Lined, drawnBy, Draws, Drawing, Left}
 use Rattle.planner.proofs.Held.{length-held, plane-held, length-plane, held-few, held-range}
 use Rattle.planner.proofs.Centred.{first-centre}
-use Rattle.planner.proofs.Fits.{few-lines}
+use Rattle.planner.proofs.Fits.{lines-most}
 use Rattle.planner.proofs.Writing.{centre-listed}
+use Rattle.planner.proofs.Verdicts.{no-answer, enough}
 
 -- the star's centre is a centre
 is-centre : (runs : List Run) (c : ℕ) → starOf (centresOf runs) ≡ Centre c → isCentre (meets (hanan runs) runs) (below (length runs)) c ≡ true
@@ -60,7 +65,8 @@ module _ (j : Job) (sets : List ℕ) (c : ℕ) (S : Starred j sets c) (x y : Sur
         surveyed = subst (λ rs. Surveyed (hanan rs) rs (x .side) (y .side) c (getD sets c 0)) (sym e)
             (surveyed (j .x1) (j .y1) (j .x2) (j .y2) (j .count) few (x .axis) (y .axis) (X .axis-is) (Y .axis-is) (x .side) (y .side) (X .side-is) (Y .side-is)
             c (getD sets c 0) (λ k h. leaf-is k h ∙ ap (λ rs. meets (hanan rs) rs c k) e));
-        few-lines = let f = few-lines (runsIn j) (omega (arith, length-held j, few)) in elim [ hor ↦ f .0 | ver ↦ f .1 ];
+        few-lines = let f = subst (λ n. (length (hanan (runsOf (runsIn j)) .columns) ≤ n + n) × (length (hanan (runsOf (runsIn j)) .rows) ≤ n + n)) (length-held j) (lines-most (runsIn j)) in
+            elim [ hor ↦ f .0 | ver ↦ f .1 ];
         short = short (j .x1) (j .y1) (j .x2) (j .y2) (j .count) few (x .axis) (y .axis) (X .axis-is) (Y .axis-is) (x .side) (y .side) (X .side-is) (Y .side-is)
             2000000 (λ i h. (r .x1-in i h, r .x2-in i h)) (λ i h. (r .y1-in i h, r .y2-in i h));
         listed = centre-listed j c (S .star);
@@ -81,16 +87,79 @@ same-behind old new n b =
     ext-getD 0 (drop n new) (drop n old) (omega (arith, length-drop n new, length-drop n old, b .size))
     (λ k h. getD-drop n new k 0 ∙ b .same (n + k) (omega arith) ∙ sym (getD-drop n old k 0))
 
--- the outcome of the stages is the plan's
-pub planned : (j : Job) (laid : Layout) → LaidOut (runsOf (runsIn j)) laid → (work mid work′ out out′ : List ℕ) (n : ℕ) → Beyond work mid 16384
-    → Wrote (planOf (j .number) (runsIn j) (drawnBy (runsOf (runsIn j)) laid)) out out′ n → work′ ≡ replicate 16384 0 ++ drop 16384 mid
-    → Plans (j .number) (runsIn j) work out (Planned n) work′ out′
+-- the plan that is written is one of least routes
+pub drawn : (j : Job) (laid : Layout) → LaidOut (runsOf (runsIn j)) laid → (out out′ : List ℕ) (n : ℕ)
+    → Wrote (planOf (j .number) (runsIn j) (drawnBy (runsOf (runsIn j)) laid)) out out′ n → Draws (j .number) (runsIn j) out (Planned n) out′
 unfolding over
-planned j laid L work mid work′ out out′ n b w e =
+drawn j laid L out out′ n w =
+    record { routes = drawnBy (runsOf (runsIn j)) laid; least = L .best .least; answers = ap Planned (w .size); plan = w .bytes }
+
+-- ---- the work words
+
+-- more runs need more words
+words-more : (n m : ℕ) → n ≤ m → tableWords n ≤ tableWords m
+words-more n m h = let k : n + n ≤ m + m = omega arith in mul-le-mul-right 4 (mul-le-mul k k)
+
+-- the words of a table for at most 32 runs
+pub words-most : (n : ℕ) → n ≤ 32 → tableWords n ≤ 16384
+words-most n h = words-more n 32 h
+
+-- words of its own are enough for a job that is no longer than one of m runs
+pub own-enough : (m : ℕ) (job out : List ℕ) → length job ≤ 8 + 19 * m → 40960 ≤ length out → Enough (length job) (replicate (tableWords m) 0) out
+own-enough m job out h b =
     record {
-      routes = drawnBy (runsOf (runsIn j)) laid;
-      least = L .best .least;
-      answers = ap Planned (w .size);
-      plan = w .bytes;
+      words = λ n few e. subst (λ k. tableWords n ≤ k) (sym (length-replicate {A = ℕ} (tableWords m) 0)) (words-more n m (omega arith));
+      bytes = b;
+    }
+
+-- and 32 are the most
+pub most-enough : (job out : List ℕ) → 40960 ≤ length out → Enough (length job) (replicate (tableWords 32) 0) out
+most-enough job out b =
+    record {
+      words = λ n few e. subst (λ k. tableWords n ≤ k) (sym (length-replicate {A = ℕ} (tableWords 32) 0)) (words-more n 32 few);
+      bytes = b;
+    }
+
+-- ---- the outcome of a call with enough words and bytes, of which the job decides
+
+-- what is drawn, and then cleared
+cleared : (v : Parsed) (work mid work′ out out′ : List ℕ) (n : ℕ) → Drawing v out (Planned n) out′ → Beyond work mid 16384
+    → work′ ≡ replicate 16384 0 ++ drop 16384 mid → Outcome v work out (Planned n) work′ out′
+cleared (accepted number runs) work mid work′ out out′ n d b e =
+    record {
+      routes = d .routes;
+      least = d .least;
+      answers = d .answers;
+      plan = d .plan;
       cleared = e ∙ ap (λ l. replicate 16384 0 ++ l) (same-behind work mid 16384 b);
     }
+cleared (refused x) work mid work′ out out′ n d b e = absurd (no-answer n x (d .answers))
+
+-- what is refused
+kept : (v : Parsed) (work mid out out′ : List ℕ) (x : Refusal) → Drawing v out (Refused x) out′ → mid ≡ work → Outcome v work out (Refused x) mid out′
+kept (accepted number runs) work mid out out′ x d e = absurd (no-answer (length (planOf number runs (d .routes))) x (sym (d .answers)))
+kept (refused y) work mid out out′ x d e = record { answers = d .answers; work-kept = e; plan-kept = d .plan-kept }
+
+module _ (job work mid out out′ : List ℕ) (r : Answer) (words : 16384 ≤ length work) (bytes : 40960 ≤ length out)
+    (d : Drawing (judged (parse job)) out r out′) (l : Left r work mid) where
+  -- the verdict is the job's
+  abbrev decided : Parsed
+  decided = verdict job (length work) (length out)
+
+  drawing : (a : Answer) → r ≡ a → Drawing decided out a out′
+  drawing a e =
+      subst (λ v. Drawing v out a out′) (sym (enough job (length work) (length out) words bytes)) (subst (λ a. Drawing (judged (parse job)) out a out′) e d)
+
+  left : (a : Answer) → r ≡ a → Left a work mid
+  left a e = subst (λ a. Left a work mid) e l
+
+  -- a plan leaves the words in their number
+  pub still-words : (n : ℕ) → r ≡ Planned n → 16384 ≤ length mid
+  still-words n e = omega (arith, left (Planned n) e .size)
+
+  pub then-cleared : (n : ℕ) (work′ : List ℕ) → r ≡ Planned n → work′ ≡ replicate 16384 0 ++ drop 16384 mid
+      → Outcome (verdict job (length work) (length out)) work out (Planned n) work′ out′
+  then-cleared n work′ e z = cleared decided work mid work′ out out′ n (drawing (Planned n) e) (left (Planned n) e) z
+
+  pub all-kept : (x : Refusal) → r ≡ Refused x → Outcome (verdict job (length work) (length out)) work out (Refused x) mid out′
+  all-kept x e = kept decided work mid out out′ x (drawing (Refused x) e) (left (Refused x) e)

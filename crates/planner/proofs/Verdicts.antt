@@ -15,7 +15,12 @@ use Rattle.intersection.specs.Star.{starOf}
 use Rattle.planner.specs.declared.Answer.{Answer}
 use Rattle.planner.specs.declared.Answer.the-variants.{Planned, Refused}
 use Rattle.planner.specs.Verdict.{runsOf, centresOf, isStar, judged, verdict}
-use Rattle.planner.specs.Outcome.{Plans, Outcome}
+use Rattle.planner.specs.Outcome.{Outcome}
+use Rattle.planner.specs.Stages.{Draws, Drawing}
+
+-- a plan is no refusal
+pub no-answer : (n : ℕ) (x : Refusal) → Planned n ≡ Refused x → ⊥
+no-answer n x e = let z : _≡_ {A = ℕ} 0 1 = cc in omega arith
 
 module _ (job work out : List ℕ) where
   -- too few words; then too few bytes
@@ -27,34 +32,36 @@ module _ (job work out : List ℕ) where
   unfolding verdict
   short-plan h k = rw (le-ltb (length work) 16384 h, lt-ltb (length out) 40960 k) (record { answers = refl; work-kept = refl; plan-kept = refl })
 
-  -- then the job
-  module _ (h : 16384 ≤ length work) (k : 40960 ≤ length out) where
-    pub read-refused : (x : Refusal) → parse job ≡ refused x → Outcome (verdict job (length work) (length out)) work out (Refused x) work out
-    unfolding verdict judged
-    read-refused x e = rw (le-ltb (length work) 16384 h, le-ltb (length out) 40960 k, e) (record { answers = refl; work-kept = refl; plan-kept = refl })
+-- with enough of both the job decides
+pub enough : (job : List ℕ) (w o : ℕ) → 16384 ≤ w → 40960 ≤ o → verdict job w o ≡ judged (parse job)
+unfolding verdict
+enough job w o h k = rw (le-ltb w 16384 h, le-ltb o 40960 k)
 
-    pub read-accepted : (number : ℕ) (runs : List Read) (answer : Answer) (work′ out′ : List ℕ) → parse job ≡ accepted number runs
-        → Outcome (judged (accepted number runs)) work out answer work′ out′
-        → Outcome (verdict job (length work) (length out)) work out answer work′ out′
-    unfolding verdict
-    read-accepted number runs answer work′ out′ e o = rw (le-ltb (length work) 16384 h, le-ltb (length out) 40960 k, e) o
+-- a job that cannot be read
+pub read-refused : (job out : List ℕ) (x : Refusal) → parse job ≡ refused x → Drawing (judged (parse job)) out (Refused x) out
+unfolding judged
+read-refused job out x e = rw e (record { answers = refl; plan-kept = refl })
+
+-- and one that can
+pub read-accepted : (job out : List ℕ) (number : ℕ) (runs : List Read) (answer : Answer) (out′ : List ℕ) → parse job ≡ accepted number runs
+    → Drawing (judged (accepted number runs)) out answer out′ → Drawing (judged (parse job)) out answer out′
+read-accepted job out number runs answer out′ e d = rw e d
 
 -- then the star
-module _ (number : ℕ) (runs : List Read) (work out : List ℕ) where
-  pub no-star : starOf (centresOf (runsOf runs)) ≡ star.NoStar → Outcome (judged (accepted number runs)) work out (Refused NoStar) work out
+module _ (number : ℕ) (runs : List Read) (out : List ℕ) where
+  pub no-star : starOf (centresOf (runsOf runs)) ≡ star.NoStar → Drawing (judged (accepted number runs)) out (Refused NoStar) out
   unfolding judged
   no-star e = go (centresOf (runsOf runs)) e
     where
-      go : (l : List ℕ) → starOf l ≡ star.NoStar
-          → Outcome (cond (isStar l) (accepted number runs) (refused NoStar)) work out (Refused NoStar) work out
-      go [] q = record { answers = refl; work-kept = refl; plan-kept = refl }
+      go : (l : List ℕ) → starOf l ≡ star.NoStar → Drawing (cond (isStar l) (accepted number runs) (refused NoStar)) out (Refused NoStar) out
+      go [] q = record { answers = refl; plan-kept = refl }
       go (c ∷ rest) q = absurd (let z : _≡_ {A = ℕ} 0 1 = cc in omega arith)
 
-  pub star-planned : (c r : ℕ) (work′ out′ : List ℕ) → starOf (centresOf (runsOf runs)) ≡ star.Centre c → Plans number runs work out (Planned r) work′ out′
-      → Outcome (judged (accepted number runs)) work out (Planned r) work′ out′
+  pub star-planned : (c r : ℕ) (out′ : List ℕ) → starOf (centresOf (runsOf runs)) ≡ star.Centre c → Draws number runs out (Planned r) out′
+      → Drawing (judged (accepted number runs)) out (Planned r) out′
   unfolding judged
-  star-planned c r work′ out′ e p = go (centresOf (runsOf runs)) e
+  star-planned c r out′ e p = go (centresOf (runsOf runs)) e
     where
-      go : (l : List ℕ) → starOf l ≡ star.Centre c → Outcome (cond (isStar l) (accepted number runs) (refused NoStar)) work out (Planned r) work′ out′
+      go : (l : List ℕ) → starOf l ≡ star.Centre c → Drawing (cond (isStar l) (accepted number runs) (refused NoStar)) out (Planned r) out′
       go [] q = absurd (let z : _≡_ {A = ℕ} 0 1 = cc in omega arith)
       go (d ∷ rest) q = p

@@ -1,13 +1,13 @@
 -- What is known between the stages of planning.
 use mathlib.Core.Path.{_≡_}
 use mathlib.Core.Bool.{true}
-use mathlib.Core.List.{List, map}
-use Prim.Native.Nat.{ℕ, _≤_, _<_}
-use lib.ListN.{length, getD, take}
+use mathlib.Core.List.{List, _++_, map}
+use Prim.Native.Nat.{ℕ, _+_, _*_, _≤_, _<_}
+use lib.ListN.{length, getD, take, drop}
 use Rattle.network.specs.Lists.{sum, All}
 use Rattle.network.specs.Plane.{Run, distance}
 use Rattle.network.specs.Hanan.{distinct, hanan}
-use Rattle.network.specs.Route.{Route}
+use Rattle.network.specs.Route.{Route, Least}
 use Rattle.network.specs.Corners.{corners}
 use Rattle.network.specs.Graph.{meets, below, isCentre}
 use Rattle.network.specs.Steps.{Dir}
@@ -17,19 +17,35 @@ use Rattle.sharing.specs.View.{lines}
 use Rattle.sharing.specs.Star.{Best}
 use Rattle.table.specs.declared.side.Side.{Side}
 use Rattle.table.specs.Side.{Sided}
+use Rattle.table.specs.Rule.{Beyond}
 use Rattle.table.proofs.Star.{sideAt, Surveyed}
 use Rattle.route.specs.Route.{drawnOf, OnGrid}
 use Rattle.planner.specs.declared.star.Survey.{Survey}
 use Rattle.planner.specs.declared.star.Layout.{Layout}
 use Rattle.job.specs.declared.Job.{Job}
+use Rattle.job.specs.declared.Run.{Run as Read}
+use Rattle.job.specs.declared.Refusal.{Refusal}
+use Rattle.job.specs.Parse.{Parsed, accepted, refused}
 use Rattle.intersection.specs.declared.Star.the-variants.{Centre}
 use Rattle.intersection.specs.Star.{meetsIn, neighbourSets, starOf}
+use Rattle.planner.specs.declared.Answer.{Answer}
+use Rattle.planner.specs.declared.Answer.the-variants.{Planned, Refused}
 use Rattle.planner.specs.Verdict.{runsOf, centresOf}
+use Rattle.planner.specs.Outcome.{planOf}
 use Rattle.planner.specs.Held.{runsIn, Held}
 
--- the lent words and bytes are enough
-pub record Lent (work out : List ℕ) : Type 0 where
-  pub words : 16384 ≤ length work
+-- the words of a table for n runs, which have at most 2 n columns and 2 n rows: four a vertex
+abbrev pub tableWords : ℕ → ℕ
+tableWords n = (n + n) * (n + n) * 4
+
+-- the lent words and bytes are enough for n runs
+pub record Lent (n : ℕ) (work out : List ℕ) : Type 0 where
+  pub words : tableWords n ≤ length work
+  pub bytes : 40960 ≤ length out
+
+-- they are enough for a job of m bytes: a job of n runs has 8 + 19 n
+pub record Enough (m : ℕ) (work out : List ℕ) : Type 0 where
+  pub words : (n : ℕ) → n ≤ 32 → m ≡ 8 + 19 * n → tableWords n ≤ length work
   pub bytes : 40960 ≤ length out
 
 -- the job is a star with the centre c, and its runs' neighbours are known
@@ -50,7 +66,7 @@ pub record Surveys (first second : List ℕ) (n : ℕ) (s : Survey) : Type 0 whe
 pub record StarSurveyed (runs : List Run) (xs ys : Side) (n c leaves : ℕ) : Type 0 where
   pub count : length runs ≡ n
   pub surveyed : Surveyed (hanan runs) runs xs ys c leaves
-  pub few-lines : (d : Dir) → length (lines (hanan runs) d) ≤ 64
+  pub few-lines : (d : Dir) → length (lines (hanan runs) d) ≤ n + n
   pub short : (d : Dir) (i : ℕ) → getD (sideAt xs ys d .len) i 0 ≤ 2000000
   pub listed : c < n
   pub star : isCentre (meets (hanan runs) runs) (below (length runs)) c ≡ true
@@ -81,3 +97,27 @@ pub record Heading (j : Job) (c total : ℕ) (laid : Layout) : Type 0 where
   pub star : starOf (centresOf (runsOf (runsIn j))) ≡ Centre c
   pub total-is : total ≡ sum distance (runsOf (runsIn j))
   pub laid-out : LaidOut (runsOf (runsIn j)) laid
+
+-- ---- a plan that is drawn, before the work words are cleared
+
+-- a job is planned
+pub record Draws (number : ℕ) (runs : List Read) (out : List ℕ) (answer : Answer) (out′ : List ℕ) : Type 0 where
+  pub routes : List Route
+  pub least : Least (hanan (runsOf runs)) (runsOf runs) routes
+  pub answers : answer ≡ Planned (length (planOf number runs routes))
+  pub plan : out′ ≡ planOf number runs routes ++ drop (length (planOf number runs routes)) out
+
+-- or refused
+pub record Declines (x : Refusal) (out : List ℕ) (answer : Answer) (out′ : List ℕ) : Type 0 where
+  pub answers : answer ≡ Refused x
+  pub plan-kept : out′ ≡ out
+
+-- by the verdict on the job
+abbrev pub Drawing : Parsed → (out : List ℕ) → Answer → (out′ : List ℕ) → Type 0
+Drawing (accepted number runs) out answer out′ = Draws number runs out answer out′
+Drawing (refused x) out answer out′ = Declines x out answer out′
+
+-- what the answer says of the work words: behind the first 16,384 they stay; where the job is refused all stay
+abbrev pub Left : Answer → (work work′ : List ℕ) → Type 0
+Left (Planned n) work work′ = Beyond work work′ 16384
+Left (Refused x) work work′ = work′ ≡ work

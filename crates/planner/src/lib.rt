@@ -8,12 +8,14 @@ mod star;
 use intersection::Star;
 use job::Job;
 use job::Refusal;
+ghost use Prim.Native.Nat.{_≤_};
 ghost use lib.ListN.{length};
-ghost use Rattle.job.specs.Parse.{accepted};
+ghost use Rattle.job.specs.Parse.{accepted, parse};
+ghost use Rattle.table.specs.Rule.{Beyond};
 ghost use Rattle.planner.specs.Verdict.{judged, verdict};
-ghost use Rattle.planner.specs.Outcome.{Plans, Outcome, MapOutcome};
+ghost use Rattle.planner.specs.Outcome.{Outcome, MapOutcome};
 ghost use Rattle.planner.specs.Held.{runsIn, Held};
-ghost use Rattle.planner.specs.Stages.{Lent, Starred};
+ghost use Rattle.planner.specs.Stages.{Lent, Enough, Starred, Draws, Drawing, Left};
 
 // What a call says: the plan's length, or why there is none.
 pub enum Answer {
@@ -21,7 +23,7 @@ pub enum Answer {
     Refused(Refusal),
 }
 
-// The plan of a job whose runs form a star with the given centre, and its length.
+// The plan of a job whose runs form a star with the given centre, and its length. The work words are left as the table leaves them.
 fn plan_star(
     j: Job,
     neighbours: [u32; 32],
@@ -29,8 +31,8 @@ fn plan_star(
     work: &mut [u32],
     out: &mut [u8],
 ) -> usize
-    requires { ⌜ Starred j neighbours centre × Lent (now work) (now out) ⌝ }
-    ensures { λ r. ⌜ Plans (j .number) (runsIn j) (now (work .entry)) (now (out .entry)) (Answer.Planned r) (now (work .exit)) (now (out .exit)) ⌝ }
+    requires { ⌜ Starred j neighbours centre × Lent (j .count) (now work) (now out) ⌝ }
+    ensures { λ r. ⌜ Draws (j .number) (runsIn j) (now (out .entry)) (Answer.Planned r) (now (out .exit)) × Beyond (now (work .entry)) (now (work .exit)) 16384 ⌝ }
 {
     let x = star::columns_of(j);
     let y = star::rows_of(j);
@@ -39,21 +41,33 @@ fn plan_star(
     let laid = star::lay(xs, ys, j.count, centre, neighbours[centre], work);
     let columns = x.axis;
     let rows = y.axis;
-    let length = star::write(j, neighbours, centre, columns, rows, laid, out);
-    clear::clear(work);
-    length
+    star::write(j, neighbours, centre, columns, rows, laid, out)
 }
 
 // The plan of a well-formed job, unless its runs form no star.
 fn plan_job(j: Job, work: &mut [u32], out: &mut [u8]) -> Answer
-    requires { ⌜ Held j × Lent (now work) (now out) ⌝ }
-    ensures { λ r. ⌜ Outcome (judged (accepted (j .number) (runsIn j))) (now (work .entry)) (now (out .entry)) r (now (work .exit)) (now (out .exit)) ⌝ }
+    requires { ⌜ Held j × Lent (j .count) (now work) (now out) ⌝ }
+    ensures { λ r. ⌜ Drawing (judged (accepted (j .number) (runsIn j))) (now (out .entry)) r (now (out .exit)) × Left r (now (work .entry)) (now (work .exit)) ⌝ }
 {
     let neighbours = judge::neighbours_of(j);
     let star = judge::star_in(&neighbours, j.count);
     match star {
         Star::NoStar => Answer::Refused(Refusal::NoStar),
         Star::Centre(centre) => Answer::Planned(plan_star(j, neighbours, centre, work, out)),
+    }
+}
+
+// The plan of a job, in work words that are enough for a job of so many bytes.
+fn plan_in(job: &[u8], work: &mut [u32], out: &mut [u8]) -> Answer
+    requires { ⌜ Enough (length (now job)) (now work) (now out) ⌝ }
+    ensures { λ r. ⌜ Drawing (judged (parse (now (job .entry)))) (now (out .entry)) r (now (out .exit)) × Left r (now (work .entry)) (now (work .exit)) ⌝ }
+{
+    let reading = job::read(job);
+    let answer = reading.answer;
+    let found = reading.job;
+    match answer {
+        job::Answer::Accepted => plan_job(found, work, out),
+        job::Answer::Refused(refusal) => Answer::Refused(refusal),
     }
 }
 
@@ -69,13 +83,66 @@ pub fn plan(job: &[u8], work: &mut [u32], out: &mut [u8]) -> Answer
     if out.len() < 40960 {
         return Answer::Refused(Refusal::ShortPlan);
     }
-    let reading = job::read(job);
-    let answer = reading.answer;
-    let found = reading.job;
+    let answer = plan_in(job, work, out);
     match answer {
-        job::Answer::Accepted => plan_job(found, work, out),
-        job::Answer::Refused(refusal) => Answer::Refused(refusal),
+        Answer::Planned(length) => {
+            clear::clear(work);
+            Answer::Planned(length)
+        }
+        Answer::Refused(refusal) => Answer::Refused(refusal),
     }
+}
+
+// ---- with work words of its own, no more than a job of so many runs can need: to set them to 0 takes longer than to plan a small job
+
+fn plan_8(job: &[u8], out: &mut [u8]) -> Answer
+    requires { ⌜ (length (now job) ≤ 160) × (40960 ≤ length (now out)) ⌝ }
+    ensures { λ r. ⌜ Drawing (judged (parse (now (job .entry)))) (now (out .entry)) r (now (out .exit)) ⌝ }
+{
+    let mut work = [0u32; 1024];
+    plan_in(job, &mut work, out)
+}
+
+fn plan_16(job: &[u8], out: &mut [u8]) -> Answer
+    requires { ⌜ (length (now job) ≤ 312) × (40960 ≤ length (now out)) ⌝ }
+    ensures { λ r. ⌜ Drawing (judged (parse (now (job .entry)))) (now (out .entry)) r (now (out .exit)) ⌝ }
+{
+    let mut work = [0u32; 4096];
+    plan_in(job, &mut work, out)
+}
+
+fn plan_24(job: &[u8], out: &mut [u8]) -> Answer
+    requires { ⌜ (length (now job) ≤ 464) × (40960 ≤ length (now out)) ⌝ }
+    ensures { λ r. ⌜ Drawing (judged (parse (now (job .entry)))) (now (out .entry)) r (now (out .exit)) ⌝ }
+{
+    let mut work = [0u32; 9216];
+    plan_in(job, &mut work, out)
+}
+
+fn plan_32(job: &[u8], out: &mut [u8]) -> Answer
+    requires { ⌜ 40960 ≤ length (now out) ⌝ }
+    ensures { λ r. ⌜ Drawing (judged (parse (now (job .entry)))) (now (out .entry)) r (now (out .exit)) ⌝ }
+{
+    let mut work = [0u32; 16384];
+    plan_in(job, &mut work, out)
+}
+
+// By the job's length: a job of n runs has 8 + 19 n bytes.
+fn plan_own(job: &[u8], out: &mut [u8]) -> Answer
+    requires { ⌜ 40960 ≤ length (now out) ⌝ }
+    ensures { λ r. ⌜ Drawing (judged (parse (now (job .entry)))) (now (out .entry)) r (now (out .exit)) ⌝ }
+{
+    let n = job.len();
+    if n <= 160 {
+        return plan_8(job, out);
+    }
+    if n <= 312 {
+        return plan_16(job, out);
+    }
+    if n <= 464 {
+        return plan_24(job, out);
+    }
+    plan_32(job, out)
 }
 
 // The map screen's function: the plan's length, or minus the refusal number. It has work words of its own.
@@ -83,8 +150,11 @@ pub fn plan(job: &[u8], work: &mut [u32], out: &mut [u8]) -> Answer
 pub extern "C" fn trench_plan(job: &[u8], out: &mut [u8]) -> i32
     ensures { λ r. ⌜ MapOutcome (verdict (now (job .entry)) 16384 (length (now (out .entry)))) (now (out .entry)) r (now (out .exit)) ⌝ }
 {
-    let mut work = [0u32; 16384];
-    match plan(job, &mut work, out) {
+    if out.len() < 40960 {
+        return codes::code_of(Refusal::ShortPlan);
+    }
+    let answer = plan_own(job, out);
+    match answer {
         Answer::Planned(length) => codes::length_code(length),
         Answer::Refused(refusal) => codes::code_of(refusal),
     }

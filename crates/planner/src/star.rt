@@ -16,7 +16,7 @@ ghost use Rattle.plan.specs.Plan.{headOf};
 ghost use Rattle.planner.specs.Verdict.{runsOf, numbersOf};
 ghost use Rattle.planner.specs.Outcome.{planOf};
 ghost use Rattle.planner.specs.Held.{runsIn, Held};
-ghost use Rattle.planner.specs.Stages.{Starred, Surveys, StarSurveyed, LaidOut, Lined, drawnBy, ownOf, Heading};
+ghost use Rattle.planner.specs.Stages.{tableWords, Starred, Surveys, StarSurveyed, LaidOut, Lined, drawnBy, ownOf, Heading};
 
 // The lines of a job on one axis, and its runs on them.
 pub struct Survey {
@@ -60,7 +60,7 @@ pub fn rows_of(j: Job) -> Survey
 
 // The routes of n runs that form a star, by the table in the work words.
 pub fn lay(xs: Side, ys: Side, n: usize, centre: usize, leaves: u32, work: &mut [u32]) -> Layout
-    requires { ⌜ ((runs : List Run) × StarSurveyed runs xs ys n centre leaves) × (16384 ≤ length (now work)) ⌝ }
+    requires { ⌜ ((runs : List Run) × StarSurveyed runs xs ys n centre leaves) × (tableWords n ≤ length (now work)) ⌝ }
     ensures { λ r. ⌜ ((runs : List Run) → StarSurveyed runs xs ys n centre leaves → LaidOut runs r) × Beyond (now (work .entry)) (now (work .exit)) 16384 ⌝ }
 {
     let group = table::frame::group_of(xs, ys, n, centre, leaves);

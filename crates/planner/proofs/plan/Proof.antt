@@ -1,15 +1,15 @@
--- Each answer is where the verdict falls: on the lent words and bytes, on the reading, or on what the job's own outcome is.
-use borrow.Author.Needs.{needs}
+-- Each answer is where the verdict falls: on the lent words and bytes, or on the job; a plan's words are cleared.
 use denote.Ref.{now}
-use Rattle.job.proofs.Answered.{reading-refuses}
-use Rattle.planner.proofs.Held.{reading-held}
-use Rattle.planner.proofs.Verdicts.{short-work, short-plan, read-refused, read-accepted}
+use native.Mathlib.Nat.{le-trans}
+use borrow.Author.Needs.{needs}
+use Rattle.planner.proofs.Verdicts.{short-work, short-plan}
+use Rattle.planner.proofs.Planned.{words-most, still-words, then-cleared, all-kept}
 use Rattle.planner.proofs.plan.Statement.{statement}
 use Rattle.planner.proofs.plan.Tie as tie
 use Rattle.planner.proofs.plan.Reads as reads
 use Rattle.planner.proofs.plan.Lts as lts
-use Rattle.job.proofs.read.Reads as read-reads
-use Rattle.planner.proofs.plan_job.Reads as plan-job-reads
+use Rattle.planner.proofs.plan_in.Reads as plan-in-reads
+use Rattle.planner.proofs.clear.clear.Reads as clear-reads
 
 returns : tie.Need-returns
 returns c = let a = c .before .before .before .before .args in short-work (now (a .job)) (now (a .work)) (now (a .out)) (c .if1 .taken)
@@ -17,21 +17,23 @@ returns c = let a = c .before .before .before .before .args in short-work (now (
 returns-2 : tie.Need-returns-2
 returns-2 c = let a = c .before .before .before .before .before .args in short-plan (now (a .job)) (now (a .work)) (now (a .out)) (c .before .if1 .left) (c .if2 .taken)
 
-read-requires : tie.Need-read-requires
-read-requires c κs = search needs
-
-enum-told : tie.Need-enum-told
-enum-told c = search needs
-
-plan-job-requires : tie.Need-plan-job-requires
-plan-job-requires c κs = (
-  reading-held _ (c .before .before .before .before .before .read .result) (λ i. c .before .before .before .before .before .before .before .before .before .before .shared-slice-known .given i .fits) (c .before .before .before .before .before .read .ensures)
-      (c .before .before .enum-told .given .1) .0,
-  record { words = c .before .before .before .before .before .before .before .if1 .left; bytes = c .before .before .before .before .before .before .if2 .left },
-)
+plan-in-requires : tie.Need-plan-in-requires
+plan-in-requires c κs =
+    let d = c .before .before in
+    record { words = λ n h e. le-trans (words-most n h) (d .before .if1 .left); bytes = d .if2 .left }
 
 enum-known-answer : tie.Need-enum-known-answer
 enum-known-answer c = search needs
+
+clear-requires : tie.Need-clear-requires
+clear-requires c κs =
+    let a = c .before .before .before .before .before .before .before .before .before .before .before .before .before .before .before .before .args in
+    let p = c .before .before .before .before .before .before .before .before .plan-in in
+    still-words (now (a .job)) (now (a .work)) (p .last .1 .0) (now (a .out)) (p .last .1 .1 .0) (p .result) (c .before .before .before .before .before .before .before .before .before .before .before .before .if1 .left) (c .before .before .before .before .before .before .before .before .before .before .before .if2 .left)
+    (p .ensures .0) (p .ensures .1) _ (c .before .before .answer .given .1)
+
+enum-known-answer-2 : tie.Need-enum-known-answer-2
+enum-known-answer-2 c = search needs
 
 same-length : tie.Need-same-length
 same-length c = search needs
@@ -41,17 +43,23 @@ same-length-2 c = search needs
 
 returns-3 : tie.Need-returns-3
 returns-3 c =
-    let a = c .before .before .before .before .before .before .before .before .before .before .before .before .before .before .before .before .args in
-    let read = c .before .before .before .before .before .before .before .before .before .before .read in
-    let parsed = reading-held _ (read .result) (λ i. c .before .before .before .before .before .before .before .before .before .before .before .before .before .before .before .shared-slice-known .given i .fits) (read .ensures) (c .before .before .before .before .before .before .before .enum-told .given .1) .1 in
-    read-accepted (now (a .job)) (now (a .work)) (now (a .out)) (c .before .before .before .before .before .before .before .before .before .before .before .before .if1 .left) (c .before .before .before .before .before .before .before .before .before .before .before .if2 .left) _ _ _ _ _ parsed (c .before .before .before .before .plan-job .ensures)
+    let a = c .before .before .before .before .before .before .before .before .before .before .before .before .before .before .before .before .before .before .before .args in
+    let p = c .before .before .before .before .before .before .before .before .before .before .before .plan-in in
+    then-cleared (now (a .job)) (now (a .work)) (p .last .1 .0) (now (a .out)) (p .last .1 .1 .0) (p .result) (c .before .before .before .before .before .before .before .before .before .before .before .before .before .before .before .if1 .left) (c .before .before .before .before .before .before .before .before .before .before .before .before .before .before .if2 .left)
+    (p .ensures .0) (p .ensures .1) _ _ (c .before .before .before .before .before .answer .given .1) (c .before .before .clear .ensures)
+
+same-length-3 : tie.Need-same-length-3
+same-length-3 c = search needs
+
+same-length-4 : tie.Need-same-length-4
+same-length-4 c = search needs
 
 returns-4 : tie.Need-returns-4
 returns-4 c =
-    let a = c .before .before .before .before .before .before .before .before .before .before .args in
-    let read = c .before .before .before .before .read in
-    read-refused (now (a .job)) (now (a .work)) (now (a .out)) (c .before .before .before .before .before .before .if1 .left) (c .before .before .before .before .before .if2 .left) _
-    (reading-refuses _ (read .result) _ (read .ensures) (c .before .answer .given .1) .0)
+    let a = c .before .before .before .before .before .before .before .before .before .before .before .before .before .before .before .args in
+    let p = c .before .before .before .before .before .before .before .plan-in in
+    all-kept (now (a .job)) (now (a .work)) (p .last .1 .0) (now (a .out)) (p .last .1 .1 .0) (p .result) (c .before .before .before .before .before .before .before .before .before .before .before .if1 .left) (c .before .before .before .before .before .before .before .before .before .before .if2 .left)
+    (p .ensures .0) (p .ensures .1) _ (c .before .answer2 .given .1)
 
 pub plan-spec : {M : Type 1} → statement M
 plan-spec =
@@ -59,11 +67,13 @@ plan-spec =
     (tie.spec
     returns
     returns-2
-    read-requires
-    enum-told
-    plan-job-requires
+    plan-in-requires
     enum-known-answer
+    clear-requires
+    enum-known-answer-2
     same-length
     same-length-2
     returns-3
+    same-length-3
+    same-length-4
     returns-4)

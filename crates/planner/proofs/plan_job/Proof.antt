@@ -1,5 +1,5 @@
 -- The outcome is that of the star test: no star, or the plan of the star.
-use mathlib.Core.Path.{_≡_, sym, _∙_}
+use mathlib.Core.Path.{_≡_, refl, sym, _∙_}
 use mathlib.Core.List.{List}
 use Prim.Native.Nat.{ℕ}
 use Rattle.network.specs.Graph.{below, centres}
@@ -54,9 +54,11 @@ returns : tie.Need-returns
 returns c =
     let a = c .before .before .before .before .before .before .before in
     let sets = c .before .before .before .before .neighbours-of in
-    let found = c .before .before .star-in in
-    no-star (a .args .j .number) (runsIn (a .args .j)) _ _
-    (judged (a .args .j) (a .pre .0) (sets .result) (sets .ensures) (found .result) (found .ensures) ∙ c .enum-told .given .1)
+    let found = c .before .before .star-in in (
+      no-star (a .args .j .number) (runsIn (a .args .j)) _
+          (judged (a .args .j) (a .pre .0) (sets .result) (sets .ensures) (found .result) (found .ensures) ∙ c .enum-told .given .1),
+      refl,
+    )
 
 same-length : tie.Need-same-length
 same-length c = search needs
@@ -69,10 +71,12 @@ returns-2 c =
     let a = c .before .before .before .before .before .before .before .before .before .before .before .before .before .before .before in
     let sets = c .before .before .before .before .before .before .before .before .before .before .before .before .neighbours-of in
     let found = c .before .before .before .before .before .before .before .before .before .before .star-in in
-    star-planned (a .args .j .number) (runsIn (a .args .j)) _ _ _ _ _ _
-    (judged (a .args .j) (a .pre .0) (sets .result) (sets .ensures) (found .result) (found .ensures)
-    ∙ c .before .before .before .before .before .before .before .before .star .given .1)
-    (c .before .before .before .before .plan-star .ensures)
+    let p = c .before .before .before .before .plan-star .ensures in (
+      star-planned (a .args .j .number) (runsIn (a .args .j)) _ _ _ _
+          (judged (a .args .j) (a .pre .0) (sets .result) (sets .ensures) (found .result) (found .ensures) ∙ c .before .before .before .before .before .before .before .before .star .given .1)
+          (p .0),
+      p .1,
+    )
 
 pub plan-job-spec : {M : Type 1} → statement M
 plan-job-spec =

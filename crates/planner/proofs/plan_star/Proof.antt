@@ -5,12 +5,11 @@ use Rattle.planner.specs.Verdict.{runsOf}
 use Rattle.planner.specs.Held.{runsIn}
 use Rattle.planner.proofs.Held.{held-few}
 use Rattle.planner.proofs.Writing.{centre-listed}
-use Rattle.planner.proofs.Planned.{star-surveyed, axes-lined, planned}
+use Rattle.planner.proofs.Planned.{star-surveyed, axes-lined, drawn}
 use Rattle.planner.proofs.plan_star.Statement.{statement}
 use Rattle.planner.proofs.plan_star.Tie as tie
 use Rattle.planner.proofs.plan_star.Reads as reads
 use Rattle.planner.proofs.plan_star.Lts as lts
-use Rattle.planner.proofs.clear.clear.Reads as clear-reads
 use Rattle.planner.proofs.star.columns_of.Reads as columns-of-reads
 use Rattle.planner.proofs.star.lay.Reads as lay-reads
 use Rattle.planner.proofs.star.rows_of.Reads as rows-of-reads
@@ -50,9 +49,6 @@ write-requires c κs =
       a .pre .1 .bytes,
     )
 
-clear-requires : tie.Need-clear-requires
-clear-requires c κs = omega (arith, c .before .before .before .before .before .before .before .before .before .lay .ensures .1 .size, c .before .before .before .before .before .before .before .before .before .before .before .before .before .before .before .before .before .pre .1 .words)
-
 same-length : tie.Need-same-length
 same-length c = search needs
 
@@ -61,12 +57,14 @@ same-length-2 c = search needs
 
 returns : tie.Need-returns
 returns c =
-    let a = c .before .before .before .before .before .before .before .before .before .before .before .before .before .before .before .before .before .before .before .before in
-    let x = c .before .before .before .before .before .before .before .before .before .before .before .before .before .before .before .before .before .columns-of in
-    let y = c .before .before .before .before .before .before .before .before .before .before .before .before .before .before .before .before .rows-of in
-    let l = c .before .before .before .before .before .before .before .before .before .before .before .before .lay in
-    planned (a .args .j) (l .result) (l .ensures .0 _ (star-surveyed (a .args .j) (a .args .t2) (a .args .centre) (a .pre .0) (x .result) (y .result) (x .ensures) (y .ensures)))
-    _ _ _ _ _ _ (l .ensures .1) (c .before .before .before .before .before .before .write .ensures) (c .before .before .clear .ensures)
+    let a = c .before .before .before .before .before .before .before .before .before .before .before .before .before .before .before .before in
+    let x = c .before .before .before .before .before .before .before .before .before .before .before .before .before .columns-of in
+    let y = c .before .before .before .before .before .before .before .before .before .before .before .before .rows-of in
+    let l = c .before .before .before .before .before .before .before .before .lay in (
+      drawn (a .args .j) (l .result) (l .ensures .0 _ (star-surveyed (a .args .j) (a .args .t2) (a .args .centre) (a .pre .0) (x .result) (y .result) (x .ensures) (y .ensures)))
+          _ _ _ (c .before .before .write .ensures),
+      l .ensures .1,
+    )
 
 pub plan-star-spec : {M : Type 1} → statement M
 plan-star-spec =
@@ -78,7 +76,6 @@ plan-star-spec =
     array-read-lay
     lay-requires
     write-requires
-    clear-requires
     same-length
     same-length-2
     returns)

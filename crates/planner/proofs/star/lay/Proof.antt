@@ -2,7 +2,9 @@
 use borrow.Author.Needs.{needs}
 use native.Mathlib.Omega.{arith}
 use mathlib.Core.Path.{sym, subst}
+use Prim.Native.Nat.{_≤_}
 use Rattle.layout.specs.Laid.{AllLayable, AllLaid}
+use Rattle.planner.specs.Stages.{tableWords}
 use Rattle.planner.proofs.Laying.{group-asks, group-fits, work-beyond, walk-fits, laid-out}
 use Rattle.planner.proofs.star.lay.Statement.{statement}
 use Rattle.planner.proofs.star.lay.Tie as tie
@@ -23,12 +25,12 @@ fill-requires c κs = group-fits _ _ _ _ _ _ (c .before .before .before .pre .0 
 figure-of-requires : tie.Need-figure-of-requires
 figure-of-requires c κs =
     let f = c .before .before .before .fill in
-    group-fits _ _ _ _ _ _ (c .before .before .before .before .before .before .before .pre .0 .1) _ (c .before .before .before .before .before .group-of .ensures) (f .last .0) (omega (arith, f .ensures .1 .size, c .before .before .before .before .before .before .before .pre .1))
+    group-fits _ _ _ _ _ _ (c .before .before .before .before .before .before .before .pre .0 .1) _ (c .before .before .before .before .before .group-of .ensures) (f .last .0) (subst (λ m. tableWords (c .before .before .before .before .before .before .before .args .n) ≤ m) (sym (f .ensures .1 .size)) (c .before .before .before .before .before .before .before .pre .1))
 
 trace-of-requires : tie.Need-trace-of-requires
 trace-of-requires c κs =
     let f = c .before .before .before .before .before .fill in
-    group-fits _ _ _ _ _ _ (c .before .before .before .before .before .before .before .before .before .pre .0 .1) _ (c .before .before .before .before .before .before .before .group-of .ensures) (f .last .0) (omega (arith, f .ensures .1 .size, c .before .before .before .before .before .before .before .before .before .pre .1))
+    group-fits _ _ _ _ _ _ (c .before .before .before .before .before .before .before .before .before .pre .0 .1) _ (c .before .before .before .before .before .before .before .group-of .ensures) (f .last .0) (subst (λ m. tableWords (c .before .before .before .before .before .before .before .before .before .args .n) ≤ m) (sym (f .ensures .1 .size)) (c .before .before .before .before .before .before .before .before .before .pre .1))
 
 routes-requires : tie.Need-routes-requires
 routes-requires c κs =
