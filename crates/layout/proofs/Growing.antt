@@ -1,14 +1,18 @@
--- A route that grows: a step written behind its steps is one step more. So loops write steps in one direction, or a part of a table, forth or back.
+-- A route that grows: a step written behind its steps is one step more. So loops write a leg, or a part of a table, forth or back.
 use mathlib.Core.Path.{_≡_, refl, sym, ap, _∙_, subst}
+use mathlib.Core.Bool.{cond}
 use mathlib.Core.List.{List, [], _∷_, _++_, map, map-append, append-assoc, append-nil, reverse, reverse-cons}
-use Prim.Native.Nat.{ℕ, suc, _+_, _-_, _≤_, _<_}
+use Prim.Native.Nat.{ℕ, zero, suc, _+_, _-_, _≤_, _<_, compare·suc-suc}
 use native.Mathlib.Numerals.{add-one}
 use native.Mathlib.Omega.{arith}
-use lib.ListN.{length, getD, take, set, replicate, replicate-append-replicate}
+use borrow.Author.Tests.{lt-ltb, le-ltb}
+use lib.Dec.{ltb}
+use lib.ListN.{length, getD, take, set, replicate, length-append, length-replicate, getD-replicate}
 use lib.Seq.{take-suc, take-suc-set, length-take-le, drop-append-le, slice, slice-empty, slice-cons}
-use Rattle.network.specs.Steps.{Dir}
+use Rattle.network.specs.Steps.{Dir, hor, ver}
 use Rattle.route.specs.declared.Route.{Route}
 use Rattle.route.specs.Route.{dirOf, stepsOf}
+use Rattle.layout.specs.Way.{legOf}
 use Rattle.layout.specs.Laid.{Longer}
 
 -- the route with the step v more
@@ -47,12 +51,28 @@ longer-more r n l s i m t p q =
       goes = q .goes ∙ ap (λ k. k ++ m) (p .goes) ∙ append-assoc (stepsOf r) l m;
     }
 
+-- ---- a leg
+
+-- how many steps it has, and the step at index i
+pub leg-length : (across up : ℕ) → length (legOf across up) ≡ across + up
+leg-length across up =
+    length-append (replicate across hor) (replicate up ver) ∙ omega (arith, length-replicate across hor, length-replicate up ver)
+
+leg-at : (across up i : ℕ) → i < across + up → getD (legOf across up) i hor ≡ cond (ltb i across) hor ver
+leg-at zero up i h = rw (le-ltb i 0 (omega arith)) (getD-replicate up i ver hor (omega arith))
+leg-at (suc across) up zero h = rw (lt-ltb 0 (suc across) (omega arith))
+leg-at (suc across) up (suc i) h = rw (compare·suc-suc (suc i) across) (leg-at across up i (omega arith))
+
 -- ---- the steps that the loops write
 
 module _ (r s : Route) (room : s .count < length (s .steps)) where
-  -- one more in the same direction
-  pub push-step : (v i : ℕ) → Longer r i (replicate i (dirOf v)) s → Longer r (i + 1) (replicate (i + 1) (dirOf v)) (stepped s v)
-  push-step v i p = rw (← (replicate-append-replicate i 1 (dirOf v))) (longer-step r i _ s v room p)
+  -- the next step of a leg
+  pub leg-next : (across up v i : ℕ) → i < across + up → dirOf v ≡ cond (ltb i across) hor ver → Longer r i (take i (legOf across up)) s
+      → Longer r (i + 1) (take (i + 1) (legOf across up)) (stepped s v)
+  leg-next across up v i h e p =
+      let g : take (i + 1) (legOf across up) ≡ take i (legOf across up) ++ dirOf v ∷ []
+      = rw (add-one, take-suc (legOf across up) i hor (omega (arith, leg-length across up)), leg-at across up i h, e) in
+      rw g (longer-step r i _ s v room p)
 
   -- one more at the end of a part of a table, and one more at its front
   module _ (steps : List ℕ) where

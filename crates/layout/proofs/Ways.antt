@@ -1,17 +1,18 @@
 -- The steps by way of a stretch, by the ways along the two axes.
-use mathlib.Core.Path.{_≡_, refl, _∙_}
+use mathlib.Core.Path.{_≡_, refl}
 use mathlib.Core.Bool.{Bool, true, false, cond}
 use mathlib.Core.List.{List, _∷_, _++_}
 use Prim.Native.Nat.{ℕ, _+_}
 use native.Mathlib.Omega.{arith}
 use lib.Dec.{eqb, leb}
-use lib.ListN.{length, length-append, length-reverse, length-replicate, replicate}
+use lib.ListN.{length, length-append, length-reverse}
 use Rattle.network.specs.Steps.{Dir, hor, ver, steps}
 use Rattle.sharing.specs.Box.{Box}
 use Rattle.sharing.specs.Leaf.{before, forward, turnIf, via}
 use Rattle.route.specs.Route.{dirOf}
 use Rattle.layout.specs.declared.Way.{Way}
 use Rattle.layout.specs.Way.{wayOf, passesForth, legOf, waySteps}
+use Rattle.layout.proofs.Growing.{leg-length}
 
 -- the steps by way of a stretch that begins along d, by the ways along the two axes
 pub via-ways : (b : Box) (near : Dir → ℕ) (d : Dir) (m l : List Dir) → l ≡ d ∷ m
@@ -38,14 +39,11 @@ ways-length x y f m =
       arith,
       length-append (i ++ turnIf f m) o,
       length-append i (turnIf f m),
-      legs (x .before) (y .before),
-      legs (x .after) (y .after),
+      leg-length (x .before) (y .before),
+      leg-length (x .after) (y .after),
       turned f,
     )
   where
-    legs : (a b : ℕ) → length (legOf a b) ≡ a + b
-    legs a b = length-append (replicate a hor) (replicate b ver) ∙ omega (arith, length-replicate a hor, length-replicate b ver)
-
     turned : (f : Bool) → length (turnIf f m) ≡ length m
     turned true = refl
     turned false = length-reverse m

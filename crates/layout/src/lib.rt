@@ -7,11 +7,13 @@ use table::side::Side;
 use table::side::wide;
 use table::trace::Trace;
 ghost use mathlib.Core.Path.{_≡_};
+ghost use mathlib.Core.Bool.{cond};
 ghost use mathlib.Core.List.{map, reverse};
 ghost use Prim.Native.Nat.{ℕ, _+_, _-_, _≤_, _<_};
-ghost use lib.ListN.{getD, replicate};
+ghost use lib.ListN.{getD};
 ghost use lib.Seq.{slice};
 ghost use Rattle.network.specs.Plane.{gap};
+ghost use Rattle.network.specs.Steps.{hor, ver};
 ghost use Rattle.sharing.specs.View.{index};
 ghost use Rattle.sharing.specs.Leaf.{turnIf};
 ghost use Rattle.route.specs.Route.{dirOf};
@@ -58,22 +60,6 @@ fn gap(a: usize, b: usize) -> usize
 
 // ---- a route that grows
 
-// The route with n steps more, all in one direction.
-fn push(r: Route, step: u8, n: usize) -> Route
-    requires { ⌜ r .count + n ≤ 128 ⌝ }
-    ensures { λ s. ⌜ Longer r n (replicate n (dirOf step)) s ⌝ }
-{
-    let mut s = r;
-    let mut i: usize = 0;
-    while i < n {
-        let at = s.count;
-        s.steps[at] = step;
-        s.count = at + 1;
-        i += 1;
-    }
-    s
-}
-
 // The route with the steps from index `from` up to `upto` more.
 fn forth(r: Route, steps: [u8; 128], from: usize, upto: usize) -> Route
     requires { ⌜ (from ≤ upto) × (upto ≤ 128) × (r .count + (upto - from) ≤ 128) ⌝ }
@@ -106,13 +92,28 @@ fn back(r: Route, steps: [u8; 128], from: usize, upto: usize) -> Route
     s
 }
 
-// The route with steps along the row and then along the column more.
+// A step of a leg, along the row or along the column.
+fn leg_step(row: bool) -> u8
+    ensures { λ r. ⌜ dirOf r ≡ cond row hor ver ⌝ }
+{
+    if row { 0 } else { 1 }
+}
+
+// The route with steps along the row and then along the column more. One loop: a loop for each direction would become a call for a few bytes.
 fn leg(r: Route, across: usize, up: usize) -> Route
     requires { ⌜ r .count + across + up ≤ 128 ⌝ }
     ensures { λ s. ⌜ Longer r (across + up) (legOf across up) s ⌝ }
 {
-    let s = push(r, 0, across);
-    push(s, 1, up)
+    let mut s = r;
+    let n = across + up;
+    let mut i: usize = 0;
+    while i < n {
+        let at = s.count;
+        s.steps[at] = leg_step(i < across);
+        s.count = at + 1;
+        i += 1;
+    }
+    s
 }
 
 // Which way a run that goes `right` along the row and `up` along the column passes a stretch that begins with the step.
