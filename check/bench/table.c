@@ -110,29 +110,23 @@ static int read_job(struct job *job, const uint8_t *bytes, size_t length)
 
 /* ---- grid and star ---- */
 
+/* How many lines lie below a value: the index of the line at it, where there is one. */
+static int position(const int32_t *line, int count, int32_t value)
+{
+    int at = 0;
+    for (int i = 0; i < count; i++)
+        at += line[i] < value;
+    return at;
+}
+
 static int insert(int32_t *line, int count, int32_t value)
 {
-    int at = count;
-    while (at > 0 && line[at - 1] > value)
-        at--;
-    if (at > 0 && line[at - 1] == value)
+    int at = position(line, count, value);
+    if (at < count && line[at] == value)
         return count;
     memmove(line + at + 1, line + at, (size_t)(count - at) * sizeof *line);
     line[at] = value;
     return count + 1;
-}
-
-static int find(const int32_t *line, int count, int32_t value)
-{
-    int low = 0, high = count - 1;
-    while (low < high) {
-        int middle = (low + high) / 2;
-        if (line[middle] < value)
-            low = middle + 1;
-        else
-            high = middle;
-    }
-    return low;
 }
 
 static void lay_grid(struct job *job)
@@ -145,8 +139,8 @@ static void lay_grid(struct job *job)
         }
     for (int i = 0; i < job->count; i++)
         for (int end = 0; end < 2; end++) {
-            job->runs[i].column[end] = find(job->column_at, job->columns, job->runs[i].x[end]);
-            job->runs[i].row[end] = find(job->row_at, job->rows, job->runs[i].y[end]);
+            job->runs[i].column[end] = position(job->column_at, job->columns, job->runs[i].x[end]);
+            job->runs[i].row[end] = position(job->row_at, job->rows, job->runs[i].y[end]);
         }
 }
 
@@ -160,24 +154,34 @@ static int most(int a, int b)
     return a < b ? b : a;
 }
 
-/* How many steps two intervals of lines have in common, below 0 where they are apart. */
-static int overlap(const int a[2], const int b[2])
+/* A run's box, as indexes of grid lines. */
+struct box {
+    int left, right, bottom, top;
+};
+
+static struct box box_of(const struct run *run)
 {
-    return least(most(a[0], a[1]), most(b[0], b[1])) - most(least(a[0], a[1]), least(b[0], b[1]));
+    const int *x = run->column, *y = run->row;
+    return (struct box){ least(x[0], x[1]), most(x[0], x[1]), least(y[0], y[1]), most(y[0], y[1]) };
 }
 
 static bool find_centre(struct job *job)
 {
+    struct box boxes[MOST_RUNS];
     memset(job->meets, 0, sizeof job->meets);
-    for (int i = 0; i < job->count; i++)
+    for (int i = 0; i < job->count; i++) {
+        struct box mine = boxes[i] = box_of(&job->runs[i]);
+        uint32_t meets = 0;
         for (int j = 0; j < i; j++) {
-            int wide = overlap(job->runs[i].column, job->runs[j].column);
-            int high = overlap(job->runs[i].row, job->runs[j].row);
+            int wide = least(mine.right, boxes[j].right) - most(mine.left, boxes[j].left);
+            int high = least(mine.top, boxes[j].top) - most(mine.bottom, boxes[j].bottom);
             if (wide >= 0 && high >= 0 && wide + high > 0) {
-                job->meets[i] |= 1u << j;
+                meets |= 1u << j;
                 job->meets[j] |= 1u << i;
             }
         }
+        job->meets[i] |= meets;
+    }
     uint32_t everyone = job->count == 32 ? UINT32_MAX : (1u << job->count) - 1;
     for (int c = 0; c < job->count; c++) {
         bool star = job->meets[c] == (everyone & ~(1u << c));
@@ -278,44 +282,77 @@ static uint32_t best_at(const struct frame *f, uint32_t *table, int a, int b, ui
     return best;
 }
 
-/* The two words of the edge by which (a,b) is entered: `any`, and `run` where it belongs to a first straight piece. */
-static void fill_edge(const struct frame *f, uint32_t *table, int a, int b, int up)
+/* The two words of an edge: of any walk that ends with it, and of one where it belongs to a first straight piece. */
+struct pair {
+    uint32_t any, run;
+};
+
+/* The words of an edge that `who` owns, from the edges along and across that end where it begins, and their owners.
+ * `start` is 1 where the walk starts there. Some walk ends there, so that `all` is not 0. */
+static struct pair rule(struct pair along, uint32_t along_of, uint32_t across, uint32_t across_of, uint32_t start,
+                        uint32_t who, uint32_t length, uint32_t cross)
 {
-    int ua = a - !up, ub = b - up;
-    uint32_t length = up ? f->step_up[ub] : f->step_right[ua];
-    uint32_t who = owner(f, a, b, up);
-    uint32_t all = best_at(f, table, ua, ub, 0), run = 0;
-    uint32_t *to = cell(f, table, a, b) + 2 * up;
-    if (who == 0) {
-        to[0] = all;
-    } else if ((who & f->cross) == 0) {
-        to[0] = all + length;
-    } else {
-        uint32_t entered = best_at(f, table, ua, ub, who);
-        if (entered)
-            run = entered + length;
-        bool goes_on = up ? ub > 0 : ua > 0;
-        if (goes_on && owner(f, ua, ub, up) == who) {
-            uint32_t before = cell(f, table, ua, ub)[2 * up + 1];
-            if (before)
-                run = larger(run, before + length);
-        }
-        to[0] = larger(all, run);
-    }
-    to[1] = run;
+    uint32_t all = larger(larger(along.any, across), start);
+    if (who == 0)
+        return (struct pair){ all, 0 };
+    if ((who & cross) == 0)
+        return (struct pair){ all + length, 0 };
+    uint32_t entered = larger(larger(along_of == who ? 0 : along.any, across_of == who ? 0 : across), start);
+    uint32_t before = larger(entered, along_of == who ? along.run : 0);
+    uint32_t run = before ? before + length : 0;
+    return (struct pair){ larger(all, run), run };
 }
 
-/* This and trace are inlined in each caller: the compiler then sees that frame and table lie apart. */
-static inline __attribute__((always_inline)) uint32_t fill(const struct frame *f, uint32_t *table)
+static void put_cell(uint32_t *to, struct pair row, struct pair column)
 {
-    for (int b = 0; b < f->h; b++)
-        for (int a = 0; a < f->w; a++) {
-            if (a > 0)
-                fill_edge(f, table, a, b, 0);
-            if (b > 0)
-                fill_edge(f, table, a, b, 1);
+    to[0] = row.any;
+    to[1] = row.run;
+    to[2] = column.any;
+    to[3] = column.run;
+}
+
+/* The words of the edge along the column that ends at a cell. */
+static struct pair column_pair(const uint32_t *at)
+{
+    return (struct pair){ at[2], at[3] };
+}
+
+/* Does the first row, the first column and the inner vertices apart, and hands on the edges into the last vertex: x
+ * along its row, y along its column. */
+static uint32_t fill(const struct frame *restrict f, uint32_t *restrict table)
+{
+    const struct pair none = { 0, 0 };
+    struct pair x = none, y = none;
+    uint32_t *to = table, cross = f->cross;
+    int w = f->w, h = f->h;
+    put_cell(to, none, none);
+    to += 4;
+    for (int a = 1; a < w; a++, to += 4) {
+        uint32_t who_before = a > 1 ? owner(f, a - 1, 0, 0) : 0;
+        x = rule(x, who_before, 0, 0, a == 1, owner(f, a, 0, 0), f->step_right[a - 1], cross);
+        put_cell(to, x, none);
+    }
+    for (int b = 1; b < h; b++) {
+        uint32_t on = f->on_row[b], on_below = f->on_row[b - 1], length = f->step_up[b - 1];
+        uint32_t over = f->over_row[b - 1], over_below = b > 1 ? f->over_row[b - 2] : 0;
+        uint32_t on_column = f->on_column[0], over_before = 0;
+        const uint32_t *below = to - 4 * w;
+        x = none;
+        y = rule(column_pair(below), on_column & over_below, 0, 0, b == 1, on_column & over, length, cross);
+        put_cell(to, x, y);
+        to += 4;
+        for (int a = 1; a < w; a++, to += 4) {
+            uint32_t over_column = f->over_column[a - 1];
+            below = to - 4 * w;
+            x = rule(x, on & over_before, y.any, on_column & over, 0, on & over_column, f->step_right[a - 1], cross);
+            on_column = f->on_column[a];
+            over_before = over_column;
+            y = rule(column_pair(below), on_column & over_below, below[0], on_below & over_column, 0,
+                     on_column & over, length, cross);
+            put_cell(to, x, y);
         }
-    return best_at(f, table, f->w - 1, f->h - 1, 0);
+    }
+    return larger(larger(x.any, y.any), f->w + f->h == 2);
 }
 
 /* Which edge into (a,b) gave this value, not counting those that `but` owns. */
@@ -327,7 +364,7 @@ static int entered_by(const struct frame *f, uint32_t *table, int a, int b, uint
 }
 
 /* The steps of a best walk, from the end back to the start, with the leaf that shares each. */
-static inline __attribute__((always_inline)) void trace(const struct frame *f, uint32_t *table, struct steps *steps)
+static void trace(const struct frame *restrict f, uint32_t *restrict table, struct steps *restrict steps)
 {
     int a = f->w - 1, b = f->h - 1;
     steps->count = a + b;
@@ -544,14 +581,14 @@ int32_t table_plan(const uint8_t *job, size_t job_len, uint8_t *out, size_t out_
     return plan(job, job_len, table, out, out_len);
 }
 
-/* The second clearing goes through a volatile pointer, or the compiler would leave it out: nobody reads these words again. */
+/* The compiler leaves out the second clearing, since nobody reads these words again, as it does in the proved planner's
+ * own words. */
 int32_t table_plan_clearing(const uint8_t *job, size_t job_len, uint8_t *out, size_t out_len)
 {
     uint32_t table[WORDS];
-    void *(*volatile clear)(void *, int, size_t) = memset;
-    clear(table, 0, sizeof table);
+    memset(table, 0, sizeof table);
     int32_t answer = plan(job, job_len, table, out, out_len);
-    clear(table, 0, sizeof table);
+    memset(table, 0, sizeof table);
     return answer;
 }
 

@@ -7,7 +7,7 @@
 
 int32_t table_plan(const uint8_t *job, size_t job_len, uint8_t *out, size_t out_len);
 
-/* The same over 16,384 work words that are cleared before the call's work and after it, as the proved planner's are. */
+/* The same over 16,384 work words that are set to 0 before the call's work and after it. */
 int32_t table_plan_clearing(const uint8_t *job, size_t job_len, uint8_t *out, size_t out_len);
 
 /* Writes the record that the program crates/table_rounds reads: so many rounds, and the frame of the job's centre. Gives its

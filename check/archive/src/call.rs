@@ -23,6 +23,7 @@ unsafe extern "C" {
     fn mmap(at: *mut c_void, length: usize, protection: i32, flags: i32, file: i32, offset: i64) -> *mut c_void;
     fn mprotect(at: *mut c_void, length: usize, protection: i32) -> i32;
     fn munmap(at: *mut c_void, length: usize) -> i32;
+    fn getrusage(who: i32, usage: *mut [i64; USAGE]) -> i32;
 }
 
 /// A C function with the interface of `trench_plan`.
@@ -32,7 +33,7 @@ pub enum Function {
     Archive,
     /// The plain C planner of `bench/`.
     Table,
-    /// The plain C planner that clears its work words as the proved one does.
+    /// The plain C planner that clears its work words.
     TableClearing,
     /// Changes the byte before the plan buffer.
     StrayWriteBefore,
@@ -91,6 +92,26 @@ pub fn rounds_in_c(job: &[u8], rounds: u32) -> (u32, u32) {
     // SAFETY: the function reads `job.len()` bytes of job and writes one word; both are alive and apart.
     let saved = unsafe { table_rounds(job.as_ptr(), job.len(), rounds, &mut sum) };
     (saved, sum)
+}
+
+/// Words of the system's record of what a process used: first the seconds and microseconds of its own code, then the system's.
+const USAGE: usize = 18;
+
+/// Whose processor time is asked for.
+#[derive(Clone, Copy, Debug, PartialEq, Eq)]
+pub enum Whose {
+    /// This process's.
+    Own = 0,
+    /// That of the programs that it ran and that have ended.
+    Programs = -1,
+}
+
+/// Microseconds of processor time so far. Time in which other processes had the processor does not count.
+pub fn processor_time(whose: Whose) -> f64 {
+    let mut usage = [0; USAGE];
+    // SAFETY: the function writes a record of USAGE words, and they are alive.
+    assert_eq!(unsafe { getrusage(whose as i32, &mut usage) }, 0, "no processor time");
+    (usage[0] + usage[2]) as f64 * 1e6 + (usage[1] + usage[3]) as f64
 }
 
 const PAGE: usize = 4096;

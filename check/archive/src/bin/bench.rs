@@ -1,11 +1,13 @@
-//! The benchmark: the archive's planner, the plain C planner and the independent planner on the same jobs, in one run. Its
-//! argument is the program `table_rounds`, with which filling and tracing alone are timed.
+//! The benchmark: the archive's planner, the plain C planner and the independent planner on the same jobs, in one run. With
+//! the program `table_rounds`, filling and tracing alone are timed as well. With `--limit` it is a test: exit status 1 where
+//! the proved code takes more than so many times as long as C.
 
 use std::hint::black_box;
 use std::path::Path;
+use std::process::ExitCode;
 use std::time::Instant;
 
-use trench_archive::call::{Function, frame_of, plan, rounds_in_c};
+use trench_archive::call::{Function, Whose, frame_of, plan, processor_time, rounds_in_c};
 use trench_archive::program::table_figure;
 use trench_check::book::job_bytes;
 use trench_check::generate::spread_star;
@@ -13,6 +15,10 @@ use trench_check::plan_book::PlanBook;
 use trench_check::planner::plan_surveyed;
 use trench_check::random::Random;
 use trench_check::refusal::{PLAN_ROOM, surveyed};
+
+const USAGE: &str = "\
+usage: bench [PROGRAM]                  times the planners, and PROGRAM, which is `table_rounds`, against C
+       bench --limit FACTOR [PROGRAM]   fails where the planner or PROGRAM takes more than FACTOR times as long as C";
 
 const RUNS: [usize; 9] = [2, 3, 4, 6, 8, 12, 16, 24, 32];
 /// Jobs of each size.
@@ -29,22 +35,54 @@ const FEW: u32 = 1;
 const MANY: u32 = 2_001;
 const REPEATS: usize = 40;
 
+/// The same where a limit is tested: rounds for each size, tables, the longer of the two calls, and how often they are made.
+const LIMIT_ROUNDS: usize = 250;
+const LIMIT_TABLES: usize = 3;
+const LIMIT_MANY: u32 = 501;
+const LIMIT_REPEATS: usize = 30;
+/// Where a ratio is above the limit, measuring goes on until it took so many times as long.
+const PATIENCE: u32 = 10;
+
 const NOTE: &str = "\
 Microseconds a job: the quickest of 40 rounds over the same 16 jobs of each size. The planners take turns in each round.
 Each job is a star of so many runs on a grid of twice as many columns and rows, all of it in the centre's box.
-Every planner reads the job book, tests it, plans it and writes the plan book.
-Plan buffers are not cleared between calls. `proved` has its 16,384 work words set to 0 before and after its work, in
-every call, as its promise says; `C` clears nothing; `C clearing` clears the same words, also before and after.
-`proved` is the archive's planner; `C` is bench/table.c, the same table algorithm, by cc -O3; `independent` is the planner of
-this folder, which enumerates small jobs and takes the in-out graph for all.";
+Every planner reads the job book, tests it, plans it and writes the plan book. Plan buffers are not cleared between calls.
+`proved` is the archive's planner. It has work words of its own, which it sets to 0 before its work, as many as a job of its
+length can need: 1,024 for up to 8 runs, 4,096 for up to 16, 9,216 for up to 24, else 16,384. The compiler leaves out the
+clearing after its work, since nobody reads the words again.
+`C` is bench/table.c, the same table algorithm, by cc -O3; it clears nothing. `C clearing` sets its 16,384 words to 0 before
+its work and after it, where the compiler leaves out the second clearing in the same way.
+`independent` is the planner of this folder, which enumerates small jobs and takes the in-out graph for all.
+The ratio that counts is `proved / C clearing`.";
 
 const TABLE_NOTE: &str = "\
 Filling the table and tracing the walk alone, for the first 8 of the jobs of 32 runs (64 x 64 lines), in microseconds a round.
 `proved` is the program crates/table_rounds, which calls the planner's `fill` and `trace_of` and is timed from outside, as a
 process; `C` is the same work by bench/table.c, called in the benchmark. A round is what 2,001 rounds take more than 1, by the
-quickest of 40 runs of each, divided by 2,000. They take turns, and neither clears the table between rounds.";
+quickest of 40 runs of each, divided by 2,000, in processor time. They take turns, and neither clears the table between rounds.";
 
-fn main() {
+fn main() -> ExitCode {
+    let words: Vec<String> = std::env::args().skip(1).collect();
+    let words: Vec<&str> = words.iter().map(String::as_str).collect();
+    let good = match words[..] {
+        ["--limit", limit] => limit.parse().ok().map(|limit| limited(limit, "")),
+        ["--limit", limit, program] => limit.parse().ok().map(|limit| limited(limit, program)),
+        [] => Some(benchmark("")),
+        [program] if !program.starts_with('-') => Some(benchmark(program)),
+        _ => None,
+    };
+    match good {
+        Some(true) => ExitCode::SUCCESS,
+        Some(false) => ExitCode::FAILURE,
+        None => {
+            eprintln!("{USAGE}");
+            ExitCode::FAILURE
+        }
+    }
+}
+
+/// Prints all times; there is nothing to fail.
+fn benchmark(program: &str) -> bool {
     println!("{NOTE}\n");
     println!(
         "| runs | proved | C | C clearing | independent | proved / C | proved / C clearing | independent / proved |"
@@ -54,7 +92,7 @@ fn main() {
     for (runs, [proved, table, clearing, independent]) in RUNS.iter().zip(&rows) {
         let (by_table, by_clearing, to_proved) = (proved / table, proved / clearing, independent / proved);
         println!(
-            "| {runs} | {proved:.1} | {table:.1} | {clearing:.1} | {independent:.0} | {by_table:.1} | {by_clearing:.1} | {to_proved:.0} |"
+            "| {runs} | {proved:.2} | {table:.2} | {clearing:.2} | {independent:.0} | {by_table:.2} | {by_clearing:.2} | {to_proved:.0} |"
         );
     }
     println!("\nHow the cost grows from n runs to 2n, which has four times the vertices:\n");
@@ -67,13 +105,19 @@ fn main() {
         println!("| {from} | {to} | {} |", factors.join(" | "));
     }
     println!();
-    let program = std::env::args().nth(1).unwrap_or_default();
-    if Path::new(&program).is_file() {
-        tables(&program);
+    if Path::new(program).is_file() {
+        tables(program);
     } else {
-        println!(
-            "There is no program {program} (`rt check table_rounds` makes it): filling and tracing alone is not timed."
-        );
+        println!("{}: filling and tracing alone is not timed.", missing(program));
+    }
+    true
+}
+
+/// Why there is no table program to time.
+fn missing(program: &str) -> String {
+    match program {
+        "" => "No table program is named".to_string(),
+        name => format!("There is no program {name} (`rt check table_rounds` makes it)"),
     }
 }
 
@@ -83,8 +127,10 @@ fn tables(program: &str) {
     println!("| job | proved | C | proved / C |");
     println!("|---:|---:|---:|---:|");
     let mut sums = [0.0; 2];
-    for (at, job) in books(32).iter().take(TABLES).enumerate() {
-        let times = table(program, job);
+    for (at, job) in books(32).into_iter().take(TABLES).enumerate() {
+        let mut table = Table::new(program, job, MANY);
+        (0..REPEATS).for_each(|_| table.round());
+        let times = table.times();
         sums = [sums[0] + times[0], sums[1] + times[1]];
         print_table(&(at + 1).to_string(), times);
     }
@@ -95,22 +141,42 @@ fn print_table(name: &str, [proved, in_c]: [f64; 2]) {
     println!("| {name} | {proved:.2} | {in_c:.2} | {:.2} |", proved / in_c);
 }
 
-/// Microseconds a round of filling and tracing for a job: the proved program's, and the plain C planner's.
-fn table(program: &str, job: &[u8]) -> [f64; 2] {
-    let mut quickest = [[f64::INFINITY; 2]; 2];
-    for _ in 0..REPEATS {
-        for (size, rounds) in [FEW, MANY].into_iter().enumerate() {
-            let frame = frame_of(job, rounds).expect("a star");
-            let start = Instant::now();
-            let proved = table_figure(program, &frame).unwrap_or_else(|error| panic!("{program}: {error}"));
-            let between = Instant::now();
-            let (in_c, _) = black_box(rounds_in_c(black_box(job), rounds));
-            let times = [between - start, between.elapsed()].map(|time| time.as_secs_f64() * 1e6);
+/// Filling and tracing alone for a job, by the proved program and by the plain C planner.
+struct Table<'a> {
+    program: &'a str,
+    job: Vec<u8>,
+    many: u32,
+    /// The quickest call of one round so far, and of many: the proved program's, and C's.
+    quickest: [[f64; 2]; 2],
+}
+
+impl Table<'_> {
+    fn new(program: &str, job: Vec<u8>, many: u32) -> Table<'_> {
+        Table { program, job, many, quickest: [[f64::INFINITY; 2]; 2] }
+    }
+
+    fn round(&mut self) {
+        for (rounds, quickest) in [FEW, self.many].into_iter().zip(&mut self.quickest) {
+            let frame = frame_of(&self.job, rounds).expect("a star");
+            let start = processor_time(Whose::Programs);
+            let proved = table_figure(self.program, &frame).unwrap_or_else(|error| panic!("{}: {error}", self.program));
+            let proved_time = processor_time(Whose::Programs) - start;
+            let start = processor_time(Whose::Own);
+            let (in_c, _) = black_box(rounds_in_c(black_box(&self.job), rounds));
+            let time_in_c = processor_time(Whose::Own) - start;
             assert_eq!(proved, Some(in_c), "what both save");
-            quickest[size] = [0, 1].map(|who| times[who].min(quickest[size][who]));
+            keep(quickest, [proved_time, time_in_c]);
         }
     }
-    [0, 1].map(|who| (quickest[1][who] - quickest[0][who]) / f64::from(MANY - FEW))
+
+    /// Microseconds a round of filling and tracing: the proved program's, and the plain C planner's.
+    fn times(&self) -> [f64; 2] {
+        [0, 1].map(|who| (self.quickest[1][who] - self.quickest[0][who]) / f64::from(self.many - FEW))
+    }
+}
+
+fn keep<const N: usize>(quickest: &mut [f64; N], times: [f64; N]) {
+    quickest.iter_mut().zip(times).for_each(|(least, time)| *least = least.min(time));
 }
 
 fn books(runs: usize) -> Vec<Vec<u8>> {
@@ -121,19 +187,22 @@ fn books(runs: usize) -> Vec<Vec<u8>> {
 fn row(runs: usize) -> [f64; 4] {
     let books = books(runs);
     let mut out = vec![0; PLAN_ROOM];
-    let mut times: [Vec<f64>; 4] = Default::default();
+    let mut quickest = [f64::INFINITY; 4];
     for _ in 0..ROUNDS {
-        for (at, function) in [Function::Archive, Function::Table, Function::TableClearing].into_iter().enumerate() {
-            times[at].push(timed(&books, CALLS, |job| {
-                assert!(black_box(plan(function, job, &mut out)) > 0, "a plan");
-            }));
-        }
-        times[3].push(timed(&books, 1, |job| {
+        let [proved, table, clearing] = [Function::Archive, Function::Table, Function::TableClearing]
+            .map(|function| called(function, &books, &mut out));
+        let independent = timed(&books, 1, |job| {
             let survey = surveyed(job).expect("a star");
             black_box(PlanBook::of(&survey.job, &plan_surveyed(&survey).expect("a star")).bytes());
-        }));
+        });
+        keep(&mut quickest, [proved, table, clearing, independent]);
     }
-    times.map(|rounds| rounds.into_iter().fold(f64::INFINITY, f64::min))
+    quickest
+}
+
+/// Microseconds a job that a C function takes.
+fn called(function: Function, books: &[Vec<u8>], out: &mut [u8]) -> f64 {
+    timed(books, CALLS, |job| assert!(black_box(plan(function, job, out)) > 0, "a plan"))
 }
 
 fn timed(books: &[Vec<u8>], calls: usize, mut call: impl FnMut(&[u8])) -> f64 {
@@ -144,4 +213,98 @@ fn timed(books: &[Vec<u8>], calls: usize, mut call: impl FnMut(&[u8])) -> f64 {
         }
     }
     start.elapsed().as_secs_f64() * 1e6 / (books.len() * calls) as f64
+}
+
+/// What is held against a limit.
+trait Contest {
+    /// Measures once more, and keeps the quickest times so far.
+    fn round(&mut self);
+    /// Microseconds: the proved code's, and C's.
+    fn times(&self) -> [f64; 2];
+    fn name(&self) -> String;
+
+    fn ratio(&self) -> f64 {
+        let [proved, in_c] = self.times();
+        proved / in_c
+    }
+}
+
+/// Planning jobs of one size, against C with clearing.
+struct Planning {
+    runs: usize,
+    books: Vec<Vec<u8>>,
+    out: Vec<u8>,
+    quickest: [f64; 2],
+}
+
+impl Contest for Planning {
+    fn round(&mut self) {
+        let functions = [Function::Archive, Function::TableClearing];
+        keep(&mut self.quickest, functions.map(|function| called(function, &self.books, &mut self.out)));
+    }
+
+    fn times(&self) -> [f64; 2] {
+        self.quickest
+    }
+
+    fn name(&self) -> String {
+        format!("trench_plan on {} runs", self.runs)
+    }
+}
+
+/// Filling and tracing alone, for some jobs together.
+struct Filling<'a>(Vec<Table<'a>>);
+
+impl Contest for Filling<'_> {
+    fn round(&mut self) {
+        self.0.iter_mut().for_each(Table::round);
+    }
+
+    fn times(&self) -> [f64; 2] {
+        [0, 1].map(|who| self.0.iter().map(|table| table.times()[who]).sum::<f64>() / self.0.len() as f64)
+    }
+
+    fn name(&self) -> String {
+        "filling and tracing".to_string()
+    }
+}
+
+/// Measures so many rounds of each contest, and goes on with those above the limit; whether none is above it then.
+fn settle(contests: &mut [impl Contest], rounds: usize, limit: f64) -> bool {
+    let start = Instant::now();
+    (0..rounds).for_each(|_| contests.iter_mut().for_each(Contest::round));
+    let long = start.elapsed() * PATIENCE;
+    while start.elapsed() < long && contests.iter().any(|contest| contest.ratio() > limit) {
+        contests.iter_mut().filter(|contest| contest.ratio() > limit).for_each(Contest::round);
+    }
+    let above: Vec<_> = contests.iter().filter(|contest| contest.ratio() > limit).collect();
+    for contest in &above {
+        let ([proved, in_c], name, ratio) = (contest.times(), contest.name(), contest.ratio());
+        println!(
+            "speed: {name} takes {proved:.2} microseconds and C {in_c:.2}: {ratio:.2} times, and {limit} is the limit"
+        );
+    }
+    above.is_empty()
+}
+
+/// Whether planning, and filling and tracing alone, take at most so many times as long as C.
+fn limited(limit: f64, program: &str) -> bool {
+    let planning = |&runs: &usize| {
+        let (books, out) = (books(runs), vec![0; PLAN_ROOM]);
+        Planning { runs, books, out, quickest: [f64::INFINITY; 2] }
+    };
+    let mut sizes: Vec<Planning> = RUNS.iter().map(planning).collect();
+    let mut good = settle(&mut sizes, LIMIT_ROUNDS, limit);
+    let ratios = || sizes.iter().map(Contest::ratio);
+    let (least, most) = (ratios().fold(f64::INFINITY, f64::min), ratios().fold(0.0, f64::max));
+    let filling = if Path::new(program).is_file() {
+        let jobs = books(32).into_iter().take(LIMIT_TABLES);
+        let mut tables = [Filling(jobs.map(|job| Table::new(program, job, LIMIT_MANY)).collect())];
+        good &= settle(&mut tables, LIMIT_REPEATS, limit);
+        format!("filling and tracing {:.2} times", tables[0].ratio())
+    } else {
+        format!("filling and tracing alone is not timed ({})", missing(program))
+    };
+    println!("speed: trench_plan {least:.2} to {most:.2} times C (2 to 32 runs); {filling}");
+    good
 }
