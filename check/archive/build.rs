@@ -1,5 +1,5 @@
 //! Links the archive that the variable TRENCH_ARCHIVE names (default: what `rt staticlib planner` writes), and the plain C
-//! planner of `bench/`, which `cc` compiles at -O3.
+//! planner of `bench/`, which `cc` compiles at -O3, plain and tuned.
 
 use std::env;
 use std::path::{Path, PathBuf};
@@ -17,8 +17,14 @@ fn main() {
     println!("cargo:rerun-if-changed={}", archive.display());
     println!("cargo:rustc-link-lib=static=trench_archive_under_test");
     println!("cargo:rustc-env=TRENCH_ARCHIVE_COPY={}", copy.display());
-    for (source, name) in [("../bench/table.c", "trench_table"), ("c/stray.c", "trench_stray")] {
-        compile(&here.join(source), &out, name);
+    let tuned = ["-DTUNED", "-Dtable_plan=tuned_plan", "-Dtable_plan_clearing=tuned_plan_clearing"];
+    let tuned = [&tuned[..], &["-Dtable_frame=tuned_frame", "-Dtable_rounds=tuned_rounds"]].concat();
+    for (source, name, words) in [
+        ("../bench/table.c", "trench_table", &[][..]),
+        ("../bench/table.c", "trench_tuned", &tuned),
+        ("c/stray.c", "trench_stray", &[]),
+    ] {
+        compile(&here.join(source), &out, name, words);
         println!("cargo:rustc-link-lib=static={name}");
     }
     println!("cargo:rustc-link-search=native={}", out.display());
@@ -26,11 +32,11 @@ fn main() {
     println!("cargo:rerun-if-changed=c");
 }
 
-fn compile(source: &Path, out: &Path, name: &str) {
+fn compile(source: &Path, out: &Path, name: &str, words: &[&str]) {
     let object = out.join(format!("{name}.o"));
     let library = out.join(format!("lib{name}.a"));
     let warnings = ["-std=c99", "-O3", "-fPIC", "-Wall", "-Wextra", "-Wpedantic", "-Werror", "-c"];
-    run(Command::new("cc").args(warnings).arg(source).arg("-o").arg(&object));
+    run(Command::new("cc").args(warnings).args(words).arg(source).arg("-o").arg(&object));
     let _ = std::fs::remove_file(&library);
     run(Command::new("ar").arg("rcs").arg(&library).arg(&object));
 }

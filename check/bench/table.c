@@ -1,5 +1,7 @@
 /* A plain C planner by the table algorithm (a table of best sharing over the centre's box, four words a vertex), written to be
- * fast and not to be proved: what the proved planner is timed against, and what stands in for it while it is not built. */
+ * fast and not to be proved: what the proved planner is timed against, and what stands in for it while it is not built.
+ * It is compiled twice: plain, and with TUNED defined. Then lines are found by counting, each run's box is made once, and the
+ * first row, the first column and the inner vertices of the table are filled apart, as the proved planner does all this. */
 #include "table.h"
 
 #include <stdbool.h>
@@ -110,8 +112,10 @@ static int read_job(struct job *job, const uint8_t *bytes, size_t length)
 
 /* ---- grid and star ---- */
 
+#ifdef TUNED
+
 /* How many lines lie below a value: the index of the line at it, where there is one. */
-static int position(const int32_t *line, int count, int32_t value)
+static int find(const int32_t *line, int count, int32_t value)
 {
     int at = 0;
     for (int i = 0; i < count; i++)
@@ -121,13 +125,42 @@ static int position(const int32_t *line, int count, int32_t value)
 
 static int insert(int32_t *line, int count, int32_t value)
 {
-    int at = position(line, count, value);
+    int at = find(line, count, value);
     if (at < count && line[at] == value)
         return count;
     memmove(line + at + 1, line + at, (size_t)(count - at) * sizeof *line);
     line[at] = value;
     return count + 1;
 }
+
+#else
+
+static int insert(int32_t *line, int count, int32_t value)
+{
+    int at = count;
+    while (at > 0 && line[at - 1] > value)
+        at--;
+    if (at > 0 && line[at - 1] == value)
+        return count;
+    memmove(line + at + 1, line + at, (size_t)(count - at) * sizeof *line);
+    line[at] = value;
+    return count + 1;
+}
+
+static int find(const int32_t *line, int count, int32_t value)
+{
+    int low = 0, high = count - 1;
+    while (low < high) {
+        int middle = (low + high) / 2;
+        if (line[middle] < value)
+            low = middle + 1;
+        else
+            high = middle;
+    }
+    return low;
+}
+
+#endif
 
 static void lay_grid(struct job *job)
 {
@@ -139,8 +172,8 @@ static void lay_grid(struct job *job)
         }
     for (int i = 0; i < job->count; i++)
         for (int end = 0; end < 2; end++) {
-            job->runs[i].column[end] = position(job->column_at, job->columns, job->runs[i].x[end]);
-            job->runs[i].row[end] = position(job->row_at, job->rows, job->runs[i].y[end]);
+            job->runs[i].column[end] = find(job->column_at, job->columns, job->runs[i].x[end]);
+            job->runs[i].row[end] = find(job->row_at, job->rows, job->runs[i].y[end]);
         }
 }
 
@@ -154,6 +187,8 @@ static int most(int a, int b)
     return a < b ? b : a;
 }
 
+#ifdef TUNED
+
 /* A run's box, as indexes of grid lines. */
 struct box {
     int left, right, bottom, top;
@@ -165,7 +200,7 @@ static struct box box_of(const struct run *run)
     return (struct box){ least(x[0], x[1]), most(x[0], x[1]), least(y[0], y[1]), most(y[0], y[1]) };
 }
 
-static bool find_centre(struct job *job)
+static void compare(struct job *job)
 {
     struct box boxes[MOST_RUNS];
     memset(job->meets, 0, sizeof job->meets);
@@ -182,6 +217,35 @@ static bool find_centre(struct job *job)
         }
         job->meets[i] |= meets;
     }
+}
+
+#else
+
+/* How many steps two intervals of lines have in common, below 0 where they are apart. */
+static int overlap(const int a[2], const int b[2])
+{
+    return least(most(a[0], a[1]), most(b[0], b[1])) - most(least(a[0], a[1]), least(b[0], b[1]));
+}
+
+static void compare(struct job *job)
+{
+    memset(job->meets, 0, sizeof job->meets);
+    for (int i = 0; i < job->count; i++)
+        for (int j = 0; j < i; j++) {
+            int wide = overlap(job->runs[i].column, job->runs[j].column);
+            int high = overlap(job->runs[i].row, job->runs[j].row);
+            if (wide >= 0 && high >= 0 && wide + high > 0) {
+                job->meets[i] |= 1u << j;
+                job->meets[j] |= 1u << i;
+            }
+        }
+}
+
+#endif
+
+static bool find_centre(struct job *job)
+{
+    compare(job);
     uint32_t everyone = job->count == 32 ? UINT32_MAX : (1u << job->count) - 1;
     for (int c = 0; c < job->count; c++) {
         bool star = job->meets[c] == (everyone & ~(1u << c));
@@ -282,6 +346,8 @@ static uint32_t best_at(const struct frame *f, uint32_t *table, int a, int b, ui
     return best;
 }
 
+#ifdef TUNED
+
 /* The two words of an edge: of any walk that ends with it, and of one where it belongs to a first straight piece. */
 struct pair {
     uint32_t any, run;
@@ -354,6 +420,49 @@ static uint32_t fill(const struct frame *restrict f, uint32_t *restrict table)
     }
     return larger(larger(x.any, y.any), f->w + f->h == 2);
 }
+
+#else
+
+/* The two words of the edge by which (a,b) is entered: `any`, and `run` where it belongs to a first straight piece. */
+static void fill_edge(const struct frame *f, uint32_t *table, int a, int b, int up)
+{
+    int ua = a - !up, ub = b - up;
+    uint32_t length = up ? f->step_up[ub] : f->step_right[ua];
+    uint32_t who = owner(f, a, b, up);
+    uint32_t all = best_at(f, table, ua, ub, 0), run = 0;
+    uint32_t *to = cell(f, table, a, b) + 2 * up;
+    if (who == 0) {
+        to[0] = all;
+    } else if ((who & f->cross) == 0) {
+        to[0] = all + length;
+    } else {
+        uint32_t entered = best_at(f, table, ua, ub, who);
+        if (entered)
+            run = entered + length;
+        bool goes_on = up ? ub > 0 : ua > 0;
+        if (goes_on && owner(f, ua, ub, up) == who) {
+            uint32_t before = cell(f, table, ua, ub)[2 * up + 1];
+            if (before)
+                run = larger(run, before + length);
+        }
+        to[0] = larger(all, run);
+    }
+    to[1] = run;
+}
+
+static uint32_t fill(const struct frame *restrict f, uint32_t *restrict table)
+{
+    for (int b = 0; b < f->h; b++)
+        for (int a = 0; a < f->w; a++) {
+            if (a > 0)
+                fill_edge(f, table, a, b, 0);
+            if (b > 0)
+                fill_edge(f, table, a, b, 1);
+        }
+    return best_at(f, table, f->w - 1, f->h - 1, 0);
+}
+
+#endif
 
 /* Which edge into (a,b) gave this value, not counting those that `but` owns. */
 static int entered_by(const struct frame *f, uint32_t *table, int a, int b, uint32_t but, uint32_t value)

@@ -15,6 +15,8 @@ unsafe extern "C" {
     fn table_plan_clearing(job: *const u8, job_len: usize, out: *mut u8, out_len: usize) -> i32;
     fn table_frame(job: *const u8, job_len: usize, rounds: u32, out: *mut u8) -> usize;
     fn table_rounds(job: *const u8, job_len: usize, rounds: u32, sum: *mut u32) -> u32;
+    fn tuned_plan_clearing(job: *const u8, job_len: usize, out: *mut u8, out_len: usize) -> i32;
+    fn tuned_rounds(job: *const u8, job_len: usize, rounds: u32, sum: *mut u32) -> u32;
     fn stray_write_before(job: *const u8, job_len: usize, out: *mut u8, out_len: usize) -> i32;
     fn stray_write_behind(job: *const u8, job_len: usize, out: *mut u8, out_len: usize) -> i32;
     fn stray_write_job(job: *const u8, job_len: usize, out: *mut u8, out_len: usize) -> i32;
@@ -35,6 +37,8 @@ pub enum Function {
     Table,
     /// The plain C planner that clears its work words.
     TableClearing,
+    /// The tuned C planner that clears its work words.
+    TunedClearing,
     /// Changes the byte before the plan buffer.
     StrayWriteBefore,
     /// Changes the byte behind the plan buffer.
@@ -53,6 +57,7 @@ impl Function {
             Function::Archive => trench_plan,
             Function::Table => table_plan,
             Function::TableClearing => table_plan_clearing,
+            Function::TunedClearing => tuned_plan_clearing,
             Function::StrayWriteBefore => stray_write_before,
             Function::StrayWriteBehind => stray_write_behind,
             Function::StrayWriteJob => stray_write_job,
@@ -63,7 +68,7 @@ impl Function {
 
     /// Whether a call touches nothing but what it is lent, so that it can be made from safe code.
     fn keeps_to_its_memory(self) -> bool {
-        matches!(self, Function::Archive | Function::Table | Function::TableClearing)
+        matches!(self, Function::Archive | Function::Table | Function::TableClearing | Function::TunedClearing)
     }
 }
 
@@ -86,11 +91,15 @@ pub fn frame_of(job: &[u8], rounds: u32) -> Option<[u8; FRAME]> {
     (length == FRAME).then_some(out)
 }
 
-/// Fills the plain C planner's table of a job and traces the walk in it so many times: what is saved, and a sum over the walks.
-pub fn rounds_in_c(job: &[u8], rounds: u32) -> (u32, u32) {
+/// Fills the table of a job and traces the walk in it so many times, by the plain C planner or the tuned one: what is saved, and a
+/// sum over the walks.
+pub fn rounds_in_c(tuned: bool, job: &[u8], rounds: u32) -> (u32, u32) {
     let mut sum = 0;
-    // SAFETY: the function reads `job.len()` bytes of job and writes one word; both are alive and apart.
-    let saved = unsafe { table_rounds(job.as_ptr(), job.len(), rounds, &mut sum) };
+    // SAFETY: the functions read `job.len()` bytes of job and write one word; both are alive and apart.
+    let saved = unsafe {
+        let function = if tuned { tuned_rounds } else { table_rounds };
+        function(job.as_ptr(), job.len(), rounds, &mut sum)
+    };
     (saved, sum)
 }
 
