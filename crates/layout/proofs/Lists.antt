@@ -3,9 +3,8 @@ use mathlib.Core.Path.{_≡_, refl, ap, _∙_}
 use mathlib.Core.List.{List, [], _∷_, map}
 use Prim.Native.Nat.{ℕ, zero, suc, _+_, _≤_, _<_}
 use native.Mathlib.Omega.{arith}
-use borrow.Author.Count.{below-more}
 use lib.ListN.{length, getD, set, take, drop, replicate}
-use lib.Seq.{getD-set-same, getD-set-other}
+use lib.Seq.{getD-set-other}
 use Rattle.network.specs.Lists.{All}
 
 -- a part of a list, mapped
@@ -41,11 +40,6 @@ module _ {A : Type 0} (d : A) where
   getD-nothing (suc n) (suc j) = getD-nothing n j
 
   module _ (t : List A) (k : ℕ) (v : A) (h : k < length t) where
-    -- one entry more
-    pub set-next : (P : ℕ → A → Type 0) → ((j : ℕ) → j < k → P j (getD t j d)) → P k v → (j : ℕ) → j < k + 1 → P j (getD (set t k v) j d)
-    set-next P all here = below-more (λ j. P j (getD (set t k v) j d)) k
-        (λ j l. rw (getD-set-other t k j v d (λ e. omega arith)) (all j l)) (rw (getD-set-same t k v d) here)
-
-    -- and what is behind it
+    -- what is behind an entry that is stored
     pub set-rest : ((j : ℕ) → k ≤ j → getD t j d ≡ d) → (j : ℕ) → k + 1 ≤ j → getD (set t k v) j d ≡ d
     set-rest rest j l = getD-set-other t k j v d (λ e. omega arith) ∙ rest j (omega arith)

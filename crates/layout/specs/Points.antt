@@ -28,6 +28,7 @@ goesBack e = ltb (e .second) (e .first)
 abbrev pub numberOf : Ends → ℕ → ℕ
 numberOf c i = index (goesBack c) 64 i
 
+-- the points on the axis of one direction
 abbrev pub ends : Points → Dir → Ends
 ends p hor = p .x
 ends p ver = p .y

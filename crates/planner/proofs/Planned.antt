@@ -1,11 +1,11 @@
 -- The plan of a star: what its stages promise, put together.
 use mathlib.Core.Path.{_≡_, refl, sym, ap, _∙_, subst}
 use mathlib.Core.Bool.{true}
-use mathlib.Core.List.{List, [], _∷_, _++_}
+use mathlib.Core.List.{List, [], _∷_, _++_, append-nil}
 use Prim.Native.Nat.{ℕ, _+_, _*_, _≤_, _<_}
 use native.Mathlib.Nat.{mul-le-mul, mul-le-mul-right}
 use native.Mathlib.Omega.{arith}
-use lib.ListN.{length, getD, drop, replicate, length-drop, length-replicate}
+use lib.ListN.{length, getD, drop, replicate, length-drop, length-replicate, drop-of-length-le}
 use lib.Seq.{ext-getD, getD-drop}
 use Rattle.network.specs.Plane.{Run}
 use Rattle.network.specs.Hanan.{hanan}
@@ -31,7 +31,7 @@ use Rattle.planner.specs.declared.star.Layout.{Layout}
 use Rattle.planner.specs.Verdict.{runsOf, centresOf, judged, verdict}
 use Rattle.planner.specs.Outcome.{planOf, Outcome}
 use Rattle.planner.specs.Held.{runsIn}
-use Rattle.planner.specs.Stages.{tableWords, Enough, Starred, Surveys, StarSurveyed, LaidOut, Lined, drawnBy, Draws, Drawing, Left}
+use Rattle.planner.specs.Stages.{tableWords, Enough, Starred, Surveys, StarSurveyed, LaidOut, Lined, drawnBy, own, Draws, Drawing, Left}
 use Rattle.planner.proofs.Held.{length-held, plane-held, length-plane, held-few, held-range}
 use Rattle.planner.proofs.Centred.{first-centre}
 use Rattle.planner.proofs.Fits.{lines-most}
@@ -92,7 +92,17 @@ pub drawn : (j : Job) (laid : Layout) → LaidOut (runsOf (runsIn j)) laid → (
     → Wrote (planOf (j .number) (runsIn j) (drawnBy (runsOf (runsIn j)) laid)) out out′ n → Draws (j .number) (runsIn j) out (Planned n) out′
 unfolding over
 drawn j laid L out out′ n w =
-    record { routes = drawnBy (runsOf (runsIn j)) laid; least = L .best .least; answers = ap Planned (w .size); plan = w .bytes }
+    record {
+      routes = drawnBy (runsOf (runsIn j)) laid;
+      least = L .best .least;
+      answers = ap Planned (w .size);
+      plan = w .bytes;
+      cleared = own-cleared;
+    }
+  where
+    own-cleared : own ≡ replicate 16384 0 ++ drop 16384 own
+    own-cleared =
+        sym (ap (λ l. own ++ l) (drop-of-length-le own {i = 16384} (omega (arith, length-replicate {A = ℕ} 16384 0))) ∙ append-nil own)
 
 -- ---- the work words
 
@@ -104,19 +114,12 @@ words-more n m h = let k : n + n ≤ m + m = omega arith in mul-le-mul-right 4 (
 pub words-most : (n : ℕ) → n ≤ 32 → tableWords n ≤ 16384
 words-most n h = words-more n 32 h
 
--- words of its own are enough for a job that is no longer than one of m runs
-pub own-enough : (m : ℕ) (job out : List ℕ) → length job ≤ 8 + 19 * m → 40960 ≤ length out → Enough (length job) (replicate (tableWords m) 0) out
+-- words for m runs are enough for a job that can have no more runs by its length
+pub own-enough : (m : ℕ) (job out : List ℕ) → ((n : ℕ) → n ≤ 32 → length job ≡ 8 + 19 * n → n ≤ m) → 40960 ≤ length out
+    → Enough (length job) (replicate (tableWords m) 0) out
 own-enough m job out h b =
     record {
-      words = λ n few e. subst (λ k. tableWords n ≤ k) (sym (length-replicate {A = ℕ} (tableWords m) 0)) (words-more n m (omega arith));
-      bytes = b;
-    }
-
--- and 32 are the most
-pub most-enough : (job out : List ℕ) → 40960 ≤ length out → Enough (length job) (replicate (tableWords 32) 0) out
-most-enough job out b =
-    record {
-      words = λ n few e. subst (λ k. tableWords n ≤ k) (sym (length-replicate {A = ℕ} (tableWords 32) 0)) (words-more n 32 few);
+      words = λ n few e. subst (λ k. tableWords n ≤ k) (sym (length-replicate {A = ℕ} (tableWords m) 0)) (words-more n m (h n few e));
       bytes = b;
     }
 

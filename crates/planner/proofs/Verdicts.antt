@@ -40,7 +40,7 @@ enough job w o h k = rw (le-ltb w 16384 h, le-ltb o 40960 k)
 -- a job that cannot be read
 pub read-refused : (job out : List ℕ) (x : Refusal) → parse job ≡ refused x → Drawing (judged (parse job)) out (Refused x) out
 unfolding judged
-read-refused job out x e = rw e (record { answers = refl; plan-kept = refl })
+read-refused job out x e = rw e (record { answers = refl; work-kept = refl; plan-kept = refl })
 
 -- and one that can
 pub read-accepted : (job out : List ℕ) (number : ℕ) (runs : List Read) (answer : Answer) (out′ : List ℕ) → parse job ≡ accepted number runs
@@ -54,7 +54,7 @@ module _ (number : ℕ) (runs : List Read) (out : List ℕ) where
   no-star e = go (centresOf (runsOf runs)) e
     where
       go : (l : List ℕ) → starOf l ≡ star.NoStar → Drawing (cond (isStar l) (accepted number runs) (refused NoStar)) out (Refused NoStar) out
-      go [] q = record { answers = refl; plan-kept = refl }
+      go [] q = record { answers = refl; work-kept = refl; plan-kept = refl }
       go (c ∷ rest) q = absurd (let z : _≡_ {A = ℕ} 0 1 = cc in omega arith)
 
   pub star-planned : (c r : ℕ) (out′ : List ℕ) → starOf (centresOf (runsOf runs)) ≡ star.Centre c → Draws number runs out (Planned r) out′

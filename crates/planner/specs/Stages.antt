@@ -1,13 +1,13 @@
 -- What is known between the stages of planning.
 use mathlib.Core.Path.{_≡_}
 use mathlib.Core.Bool.{true}
-use mathlib.Core.List.{List, _++_, map}
+use mathlib.Core.List.{List, map}
 use Prim.Native.Nat.{ℕ, _+_, _*_, _≤_, _<_}
-use lib.ListN.{length, getD, take, drop}
+use lib.ListN.{length, getD, take, replicate}
 use Rattle.network.specs.Lists.{sum, All}
 use Rattle.network.specs.Plane.{Run, distance}
 use Rattle.network.specs.Hanan.{distinct, hanan}
-use Rattle.network.specs.Route.{Route, Least}
+use Rattle.network.specs.Route.{Route}
 use Rattle.network.specs.Corners.{corners}
 use Rattle.network.specs.Graph.{meets, below, isCentre}
 use Rattle.network.specs.Steps.{Dir}
@@ -24,14 +24,13 @@ use Rattle.planner.specs.declared.star.Survey.{Survey}
 use Rattle.planner.specs.declared.star.Layout.{Layout}
 use Rattle.job.specs.declared.Job.{Job}
 use Rattle.job.specs.declared.Run.{Run as Read}
-use Rattle.job.specs.declared.Refusal.{Refusal}
-use Rattle.job.specs.Parse.{Parsed, accepted, refused}
+use Rattle.job.specs.Parse.{Parsed}
 use Rattle.intersection.specs.declared.Star.the-variants.{Centre}
 use Rattle.intersection.specs.Star.{meetsIn, neighbourSets, starOf}
 use Rattle.planner.specs.declared.Answer.{Answer}
 use Rattle.planner.specs.declared.Answer.the-variants.{Planned, Refused}
 use Rattle.planner.specs.Verdict.{runsOf, centresOf}
-use Rattle.planner.specs.Outcome.{planOf}
+use Rattle.planner.specs.Outcome.{Plans, Outcome}
 use Rattle.planner.specs.Held.{runsIn, Held}
 
 -- the words of a table for n runs, which have at most 2 n columns and 2 n rows: four a vertex
@@ -98,24 +97,16 @@ pub record Heading (j : Job) (c total : ℕ) (laid : Layout) : Type 0 where
   pub total-is : total ≡ sum distance (runsOf (runsIn j))
   pub laid-out : LaidOut (runsOf (runsIn j)) laid
 
--- ---- a plan that is drawn, before the work words are cleared
+-- ---- a plan that is drawn, before the work words are cleared: the outcome as if with cleared words of its own
 
--- a job is planned
-pub record Draws (number : ℕ) (runs : List Read) (out : List ℕ) (answer : Answer) (out′ : List ℕ) : Type 0 where
-  pub routes : List Route
-  pub least : Least (hanan (runsOf runs)) (runsOf runs) routes
-  pub answers : answer ≡ Planned (length (planOf number runs routes))
-  pub plan : out′ ≡ planOf number runs routes ++ drop (length (planOf number runs routes)) out
+abbrev pub own : List ℕ
+own = replicate 16384 0
 
--- or refused
-pub record Declines (x : Refusal) (out : List ℕ) (answer : Answer) (out′ : List ℕ) : Type 0 where
-  pub answers : answer ≡ Refused x
-  pub plan-kept : out′ ≡ out
+abbrev pub Draws : (number : ℕ) (runs : List Read) (out : List ℕ) → Answer → (out′ : List ℕ) → Type 0
+Draws number runs out answer out′ = Plans number runs own out answer own out′
 
--- by the verdict on the job
 abbrev pub Drawing : Parsed → (out : List ℕ) → Answer → (out′ : List ℕ) → Type 0
-Drawing (accepted number runs) out answer out′ = Draws number runs out answer out′
-Drawing (refused x) out answer out′ = Declines x out answer out′
+Drawing v out answer out′ = Outcome v own out answer own out′
 
 -- what the answer says of the work words: behind the first 16,384 they stay; where the job is refused all stay
 abbrev pub Left : Answer → (work work′ : List ℕ) → Type 0

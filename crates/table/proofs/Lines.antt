@@ -7,6 +7,7 @@ use native.Mathlib.Decide.{decLt}
 use lib.Bits.{bitAnd}
 use lib.ListN.{length, getD, set}
 use lib.Seq.{getD-set-same, getD-set-other}
+use borrow.Author.Count.{below-more}
 use borrow.Author.Tests.{lt-ltb, le-ltb}
 use Rattle.network.specs.Plane.{gap}
 use Rattle.table.specs.declared.side.Side.{Side}
@@ -60,14 +61,11 @@ next-line on len p q (suc i) here before low n h k l =
     let e : suc i - 1 ≡ i = omega arith in
     rw (h, k, l, e)
 
--- an array that holds f below i, with f i stored at i
-pub set-next : {A : Type 0} (t : List A) (i : ℕ) (v d : A) (f : ℕ → A) → i < length t → ((j : ℕ) → j < i → getD t j d ≡ f j) → v ≡ f i
-    → (j : ℕ) → j < i + 1 → getD (set t i v) j d ≡ f j
-set-next t i v d f h old e j l = go (decLt j i)
-  where
-    go : Dec (j < i) → getD (set t i v) j d ≡ f j
-    go (yes k) = getD-set-other t i j v d (λ z. omega arith) ∙ old j k
-    go (no k) = let z : j ≡ i = omega arith in rw z (getD-set-same t i v d h ∙ e)
+-- what holds of each entry below k, and of what is stored at k, holds of each entry below k + 1
+pub set-next : {A : Type 0} (d : A) (t : List A) (k : ℕ) (v : A) → k < length t → (P : ℕ → A → Type 0) → ((j : ℕ) → j < k → P j (getD t j d)) → P k v
+    → (j : ℕ) → j < k + 1 → P j (getD (set t k v) j d)
+set-next d t k v h P all here =
+    below-more (λ j. P j (getD (set t k v) j d)) k (λ j l. rw (getD-set-other t k j v d (λ e. omega arith)) (all j l)) (rw (getD-set-same t k v d) here)
 
 -- ---- lines within the axis
 

@@ -1,12 +1,9 @@
 -- Short lines, and that the table of a group with short lines fits its work words.
-use mathlib.Core.Path.{_≡_}
 use mathlib.Core.List.{List}
-use Prim.Native.Nat.{ℕ, _+_, _*_, _≤_, _<_}
+use Prim.Native.Nat.{ℕ, _≤_, _<_}
 use native.Mathlib.Omega.{arith}
 use native.Mathlib.Nat.{mul-le-mul}
-use native.Mathlib.Decide.{decLt}
-use lib.ListN.{length, getD, set}
-use lib.Seq.{getD-set-same, getD-set-other}
+use lib.ListN.{length, getD}
 use Rattle.network.specs.Steps.{Dir, hor, ver}
 use Rattle.table.specs.declared.frame.Line.{Line}
 use Rattle.table.specs.declared.frame.Group.{Group}
@@ -16,14 +13,6 @@ use Rattle.table.specs.Rule.{many, lineAt, Fit}
 -- the first n lines are short
 abbrev pub Short : List Line → ℕ → Type 0
 Short lines n = (i : ℕ) → i < n → getD lines i blank .len ≤ 2000000
-
--- and with one more, which is stored behind them
-pub short-next : (lines : List Line) (n : ℕ) (l : Line) → n < length lines → Short lines n → l .len ≤ 2000000 → Short (set lines n l) (n + 1)
-short-next lines n l h old e i k = go (decLt i n)
-  where
-    go : Dec (i < n) → getD (set lines n l) i blank .len ≤ 2000000
-    go (yes m) = rw (getD-set-other lines n i l blank (λ z. omega arith)) (old i m)
-    go (no m) = let z : i ≡ n = omega arith in rw (z, getD-set-same lines n l blank h) e
 
 -- a group of at most 64 short columns and rows fits 16,384 words
 pub fits : (g : Group) → Short (g .cols) 64 → Short (g .rows) 64 → (1 ≤ g .w) × (g .w ≤ 64) → (1 ≤ g .h) × (g .h ≤ 64)

@@ -24,24 +24,15 @@ fn wide(b: u8) -> u32
     b as u32
 }
 
-// The word at a place of the record, the lowest byte first.
-fn word_at(bytes: &[u8; 1546], at: usize) -> u32
-    requires { ⌜ at + 4 ≤ 1546 ⌝ }
-{
-    let low = wide(bytes[at]) + 256 * wide(bytes[at + 1]);
-    let high = wide(bytes[at + 2]) + 256 * wide(bytes[at + 3]);
-    low + 65536 * high
-}
-
 // The line at a place of the record.
 fn line_at(bytes: &[u8; 1546], at: usize) -> Line
     requires { ⌜ at + 12 ≤ 1546 ⌝ }
     ensures { λ r. ⌜ r .len ≤ 2000000 ⌝ }
 {
     Line {
-        on: word_at(bytes, at),
-        into: word_at(bytes, at + 4),
-        len: word_at(bytes, at + 8) % 2000001,
+        on: job::le32(bytes, at),
+        into: job::le32(bytes, at + 4),
+        len: job::le32(bytes, at + 8) % 2000001,
     }
 }
 
@@ -78,7 +69,7 @@ fn group_of(bytes: &[u8; 1546]) -> Group
     Group {
         cols: lines_at(bytes, 10),
         rows: lines_at(bytes, 778),
-        cross: word_at(bytes, 6),
+        cross: job::le32(bytes, 6),
         w: count_at(bytes, 4),
         h: count_at(bytes, 5),
     }
@@ -110,7 +101,7 @@ fn print(figure: u32, sum: u32) {
 fn main() {
     let mut bytes = [0u8; 1546];
     io::read_full(STDIN_FILENO, &mut bytes);
-    let rounds = word_at(&bytes, 0) % 1048576;
+    let rounds = job::le32(&bytes, 0) % 1048576;
     let g = group_of(&bytes);
     let mut work = [0u32; 16384];
     let sum = go_round(&mut work, g, rounds);

@@ -8,6 +8,7 @@ use std::process::ExitCode;
 use std::time::Instant;
 
 use trench_archive::call::{Function, Whose, frame_of, plan, processor_time, rounds_in_c};
+use trench_archive::ended;
 use trench_archive::program::table_figure;
 use trench_check::book::job_bytes;
 use trench_check::generate::spread_star;
@@ -75,14 +76,7 @@ fn main() -> ExitCode {
         [program] if !program.starts_with('-') => Some(benchmark(program)),
         _ => None,
     };
-    match good {
-        Some(true) => ExitCode::SUCCESS,
-        Some(false) => ExitCode::FAILURE,
-        None => {
-            eprintln!("{USAGE}");
-            ExitCode::FAILURE
-        }
-    }
+    ended(good, USAGE)
 }
 
 /// Prints all times; there is nothing to fail.

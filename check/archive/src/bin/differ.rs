@@ -5,6 +5,7 @@ use std::process::ExitCode;
 use std::time::{Instant, SystemTime, UNIX_EPOCH};
 
 use trench_archive::call::{Against, Function, Guarded, frame_of};
+use trench_archive::ended;
 use trench_archive::program::{printed_by, table_figure};
 use trench_check::compare::{Report, case, try_cases, try_listing};
 use trench_check::planner::plan_surveyed;
@@ -31,14 +32,7 @@ fn main() -> ExitCode {
         ["--table", ref rest @ ..] => numbers(rest).and_then(|numbers| compared(Function::Table, &numbers)),
         ref all => numbers(all).and_then(|numbers| compared(Function::Archive, &numbers)),
     };
-    match good {
-        Some(true) => ExitCode::SUCCESS,
-        Some(false) => ExitCode::FAILURE,
-        None => {
-            eprintln!("{USAGE}");
-            ExitCode::FAILURE
-        }
-    }
+    ended(good, USAGE)
 }
 
 fn numbers(words: &[&str]) -> Option<Vec<u64>> {

@@ -6,11 +6,12 @@ use borrow.Author.Needs.{needs}
 use lib.ListN.{length, getD, length-set}
 use Rattle.route.specs.declared.Route.{Route}
 use Rattle.table.specs.Walk.{movesOf}
+use Rattle.table.proofs.Lines.{set-next}
 use Rattle.layout.specs.declared.Points.{Points}
 use Rattle.layout.specs.Points.{pointsOf}
 use Rattle.layout.specs.Laid.{unlaid, Laid}
 use Rattle.layout.proofs.Finding.{AllFound}
-use Rattle.layout.proofs.Lists.{getD-nothing, set-next, set-rest}
+use Rattle.layout.proofs.Lists.{getD-nothing, set-rest}
 use Rattle.layout.proofs.Laying.{centre-few}
 use Rattle.layout.proofs.routes.Statement.{statement}
 use Rattle.layout.proofs.routes.Tie as tie

@@ -10,8 +10,8 @@ lines-at-requires c κs = search needs
 lines-at-requires-2 : tie.Need-lines-at-requires-2
 lines-at-requires-2 c κs = search needs
 
-word-at-requires : tie.Need-word-at-requires
-word-at-requires c κs = search needs
+le32-requires : tie.Need-le32-requires
+le32-requires c κs = search needs
 
 count-at-requires : tie.Need-count-at-requires
 count-at-requires c κs = search needs
@@ -20,7 +20,7 @@ count-at-requires-2 : tie.Need-count-at-requires-2
 count-at-requires-2 c κs = search needs
 
 returns : tie.Need-returns
-returns c = fits _ (c .before .before .before .before .lines-at .ensures) (c .before .before .before .lines-at2 .ensures) (c .before .count-at .ensures) (c .count-at2 .ensures)
+returns c = fits _ (c .before .before .before .before .before .lines-at .ensures) (c .before .before .before .before .lines-at2 .ensures) (c .before .count-at .ensures) (c .count-at2 .ensures)
 
 pub group-of-spec : {M : Type 1} → statement M
 group-of-spec =
@@ -28,7 +28,7 @@ group-of-spec =
     (tie.spec
     lines-at-requires
     lines-at-requires-2
-    word-at-requires
+    le32-requires
     count-at-requires
     count-at-requires-2
     returns)

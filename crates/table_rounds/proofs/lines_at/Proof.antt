@@ -4,7 +4,9 @@ use Prim.Native.Nat.{_-_, _≤_}
 use native.Mathlib.Omega.{arith}
 use borrow.Author.Needs.{needs}
 use lib.ListN.{length, length-set}
-use Rattle.table_rounds.proofs.Short.{Short, short-next}
+use Rattle.table.specs.Frame.{blank}
+use Rattle.table.proofs.Lines.{set-next}
+use Rattle.table_rounds.proofs.Short.{Short}
 use Rattle.table_rounds.proofs.lines_at.Statement.{statement}
 use Rattle.table_rounds.proofs.lines_at.Tie as tie
 
@@ -43,7 +45,7 @@ loop-again c =
     let l = c .before .before .loop in (
       omega arith,
       length-set (l .lines) (l .i) (c .line-at .result) ∙ l .inv .1,
-      short-next (l .lines) (l .i) _ (omega arith) (l .inv .2) (c .line-at .ensures),
+      set-next blank (l .lines) (l .i) _ (omega arith) (λ j x. x .len ≤ 2000000) (l .inv .2) (c .line-at .ensures),
     )
 
 returns : tie.Need-returns Inv-loop μ-loop

@@ -9,8 +9,11 @@ slice-aggregate-read-full c = search needs
 read-full-requires : tie.Need-read-full-requires
 read-full-requires c κs = search needs
 
-word-at-requires : tie.Need-word-at-requires
-word-at-requires c κs = search needs
+slice-aggregate-le32 : tie.Need-slice-aggregate-le32
+slice-aggregate-le32 c = search needs
+
+le32-requires : tie.Need-le32-requires
+le32-requires c κs = search needs
 
 group-of-requires : tie.Need-group-of-requires
 group-of-requires c κs = search needs
@@ -39,7 +42,8 @@ main-spec =
     (tie.spec
     slice-aggregate-read-full
     read-full-requires
-    word-at-requires
+    slice-aggregate-le32
+    le32-requires
     group-of-requires
     slice-aggregate-go-round
     go-round-requires

@@ -47,7 +47,7 @@ loop-again c =
       l .inv .1,
       l .inv .2,
       length-set (l .t) (l .i) (c .line-at .result) ∙ l .inv .3,
-      λ j h. set-next (l .t) (l .i) _ blank (λ j. frameLine (λ k. getD (a .on .now) k 0) (λ k. getD (a .len .now) k 0) (a .p) (a .q) j) (omega (arith, l .inv .2, l .inv .3)) (l .inv .4) (c .line-at .ensures) j h,
+      λ j h. set-next blank (l .t) (l .i) _ (omega (arith, l .inv .2, l .inv .3)) (λ j x. x ≡ frameLine (λ k. getD (a .on .now) k 0) (λ k. getD (a .len .now) k 0) (a .p) (a .q) j) (l .inv .4) (c .line-at .ensures) j h,
     )
 
 returns : tie.Need-returns Inv-loop μ-loop

@@ -47,8 +47,8 @@ loop-again c =
     let p = c .position in (
       search needs,
       length-set (l .loop .t) (l .loop .k) (p .result) ∙ l .loop .inv .1,
-      set-next (l .loop .t) (l .loop .k) (p .result) 0 (λ j. indexOf (s .args .lines .now) (s .args .count) (getD (s .args .values .now) j 0))
-          (omega (arith, l .loop .inv .1, s .pre .1)) (l .loop .inv .2) (p .ensures .0),
+      set-next 0 (l .loop .t) (l .loop .k) (p .result) (omega (arith, l .loop .inv .1, s .pre .1))
+          (λ j x. x ≡ indexOf (s .args .lines .now) (s .args .count) (getD (s .args .values .now) j 0)) (l .loop .inv .2) (p .ensures .0),
     )
 
 returns : tie.Need-returns Inv-loop μ-loop

@@ -44,7 +44,7 @@ loop-again c =
     let e : w % 256 ≡ w = mod-eq-of-lt (s .pre .1 (l .loop .k) (c .before .loop-test .taken)) in (
       search needs,
       length-set (l .loop .t) (l .loop .k) (w % 256) ∙ l .loop .inv .1,
-      set-next (l .loop .t) (l .loop .k) (w % 256) 0 (λ j. getD (s .args .words .now) j 0) (omega (arith, l .loop .inv .1, s .pre .0)) (l .loop .inv .2) e,
+      set-next 0 (l .loop .t) (l .loop .k) (w % 256) (omega (arith, l .loop .inv .1, s .pre .0)) (λ j x. x ≡ getD (s .args .words .now) j 0) (l .loop .inv .2) e,
     )
 
 returns : tie.Need-returns Inv-loop μ-loop
