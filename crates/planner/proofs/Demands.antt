@@ -5,20 +5,21 @@ use mathlib.Core.Logic.{_↔_}
 use mathlib.Core.List.{List, [], _∷_, map}
 use Prim.Native.Nat.{ℕ, _-_, _≤_}
 use native.Mathlib.Omega.{arith}
-use borrow.Author.Tests.{le-ltb}
+use borrow.Author.Tests.{ltb-false}
 use lib.Dec.{ltb}
-use lib.ListN.{length, getD}
+use lib.ListN.{length, getD, take, drop}
+use lib.Seq.{take-append-seam}
 use Rattle.network.specs.Lists.{sum, All}
 use Rattle.network.specs.Plane.{Run, distance}
 use Rattle.network.specs.Hanan.{hanan}
 use Rattle.network.specs.Route.{Route, unionLength, Least}
 use Rattle.network.specs.Graph.{meets, below, centres}
 use Rattle.network.specs.Corners.{corners}
-use Rattle.network.proofs.Centres.{IsCentre, centres-first, centres-none}
+use Rattle.network.proofs.Centres.{centres-first, centres-none}
 use Rattle.network.proofs.Corners.{corners-least}
 use Rattle.network.proofs.Leaves.{below-rises}
 use Rattle.job.specs.declared.Run.{Run as Read}
-use Rattle.job.specs.declared.Refusal.{Refusal}
+use Rattle.job.specs.Refusal.{refusalNumber, refusalPlace}
 use Rattle.job.specs.declared.Refusal.the-variants.{ShortWork, ShortPlan, NoStar}
 use Rattle.job.specs.Parse.{Parsed, accepted, refused, parse}
 use Rattle.job.specs.Written.{Bytes, WellFormed, bytesOf}
@@ -27,17 +28,14 @@ use Rattle.plan.specs.declared.Head.{Head}
 use Rattle.plan.specs.Plan.{Entry, bookBytes, entriesFrom, headOf, meetsOf, drawnBytes, planBytes}
 use Rattle.plan.proofs.Determined.{InRange, HeadFits, book-head, book-corners}
 use Rattle.plan.proofs.Whole.{entries-corners}
-use Rattle.planner.specs.declared.Answer.{Answer}
-use Rattle.planner.specs.Verdict.{runsOf, numbersOf, centresOf, isStar, judged, verdict}
-use Rattle.planner.specs.Outcome.{planOf, Plans, Refuses, Outcome}
+use Rattle.planner.specs.Verdict.{centresOf, isStar, judged, verdict}
+use Rattle.planner.specs.Call.{runsOf, numbersOf, planOf, Said, gives}
+use Rattle.planner.specs.Outcome.{Outcome}
+use Rattle.planner.specs.Demands.{JobIn, IsStar, Admitted, LeastPlan, Demands}
 use Rattle.planner.proofs.Fits.{corners-in, head-fits}
+use Rattle.planner.proofs.Verdicts.{no-plan, enough}
 
 -- ---- the intersection graph is a star
-
--- some run meets every other run, and no two others meet
-pub record IsStar (runs : List Run) : Type 0 where
-  pub centre : ℕ
-  pub is : IsCentre (meets (hanan runs) runs) (below (length runs)) centre
 
 star-is : (runs : List Run) → isStar (centresOf runs) ≡ true → IsStar runs
 unfolding centresOf
@@ -74,83 +72,113 @@ accepts-judged : (p : Parsed) (number : ℕ) (runs : List Read) → p ≡ accept
 unfolding judged
 accepts-judged p number runs e h = rw (e, h)
 
--- with words and bytes enough, the verdict is on the job alone
-enough : (job : List ℕ) (work out : ℕ) → 16384 ≤ work → 40960 ≤ out → verdict job work out ≡ judged (parse job)
-unfolding verdict
-enough job work out h k = rw (le-ltb work 16384 h, le-ltb out 40960 k)
-
--- DEMAND 2: with words and bytes enough, a job is accepted exactly if the bytes are a well-formed job written down, and its runs form a star
-pub accepted-exactly : (job : List ℕ) (work out number : ℕ) (runs : List Read) → Bytes job → 16384 ≤ work → 40960 ≤ out
-    → (verdict job work out ≡ accepted number runs) ↔ (WellFormed number runs × (job ≡ bytesOf number runs) × IsStar (runsOf runs))
-accepted-exactly job work out number runs b h k = (
-  λ e.
-      let (p, s) = judged-accepts (parse job) number runs (sym (enough job work out h k) ∙ e) in
+-- the bytes that are accepted are a well-formed job written down, and its runs form a star; and such bytes are accepted
+module _ (job : List ℕ) (b : Bytes job) where
+  job-star : (number : ℕ) (runs : List Read) → judged (parse job) ≡ accepted number runs
+      → WellFormed number runs × (job ≡ bytesOf number runs) × IsStar (runsOf runs)
+  job-star number runs e =
+      let (p, s) = judged-accepts (parse job) number runs e in
       let (w, j) = accepted-iff job number runs b .0 p in
-      (w, j, star-is (runsOf runs) s),
-  λ w. enough job work out h k ∙ accepts-judged (parse job) number runs (accepted-iff job number runs b .1 (w .0, w .1)) (is-star (runsOf runs) (w .2)),
-)
+      (w, j, star-is (runsOf runs) s)
 
--- an accepted job has at most 32 runs, whatever is lent
-pub accepted-few : (job : List ℕ) (work out number : ℕ) (runs : List Read) → Bytes job → verdict job work out ≡ accepted number runs → length runs ≤ 32
+  star-job : (j : JobIn job) → IsStar (runsOf (j .runs)) → judged (parse job) ≡ accepted (j .number) (j .runs)
+  star-job j s =
+      accepts-judged (parse job) (j .number) (j .runs) (accepted-iff job (j .number) (j .runs) b .1 (j .well-formed, j .written)) (is-star (runsOf (j .runs)) s)
+
+-- an accepted job has at most 32 runs
+pub accepted-few : (job : List ℕ) (number : ℕ) (runs : List Read) → Bytes job → judged (parse job) ≡ accepted number runs → length runs ≤ 32
+accepted-few job number runs b e = job-star job b number runs e .0 .most
+
+-- what is accepted was lent enough
+lent-enough : (job : List ℕ) (words bytes number : ℕ) (runs : List Read) → verdict job words bytes ≡ accepted number runs
+    → (16384 ≤ words) × (40960 ≤ bytes) × (judged (parse job) ≡ accepted number runs)
 unfolding verdict
-accepted-few job work out number runs b e = go (ltb work 16384) (ltb out 40960) e
+lent-enough job words bytes number runs e = go (ltb words 16384) refl (ltb bytes 40960) refl e
   where
-    go : (s t : Bool) → cond s (refused ShortWork) (cond t (refused ShortPlan) (judged (parse job))) ≡ accepted number runs → length runs ≤ 32
-    go true t q = absurd (let z : _≡_ {A = ℕ} 0 1 = cc in omega arith)
-    go false true q = absurd (let z : _≡_ {A = ℕ} 0 1 = cc in omega arith)
-    go false false q = accepted-iff job number runs b .0 (judged-accepts (parse job) number runs q .0) .0 .most
+    go : (s : Bool) → ltb words 16384 ≡ s → (t : Bool) → ltb bytes 40960 ≡ t → cond s (refused ShortWork) (cond t (refused ShortPlan) (judged (parse job))) ≡ accepted number runs
+        → (16384 ≤ words) × (40960 ≤ bytes) × (judged (parse job) ≡ accepted number runs)
+    go true h t k q = absurd (let z : _≡_ {A = ℕ} 0 1 = cc in omega arith)
+    go false h true k q = absurd (let z : _≡_ {A = ℕ} 0 1 = cc in omega arith)
+    go false h false k q = (ltb-false words 16384 h, ltb-false bytes 40960 k, q)
 
--- ---- a call
+-- two jobs of the same bytes are the same
+same-job : (job : List ℕ) → Bytes job → (j : JobIn job) (number : ℕ) (runs : List Read) → parse job ≡ accepted number runs
+    → (number ≡ j .number) × (runs ≡ j .runs)
+same-job job b j number runs e = same (sym e ∙ accepted-iff job (j .number) (j .runs) b .1 (j .well-formed, j .written))
+  where
+    same : accepted number runs ≡ accepted (j .number) (j .runs) → (number ≡ j .number) × (runs ≡ j .runs)
+    same q = (cc, cc)
 
-module _ (job work out : List ℕ) (answer : Answer) (work′ out′ : List ℕ)
-    (call : Outcome (verdict job (length work) (length out)) work out answer work′ out′) where
-  -- DEMAND 1: a refusal is told with its number and place, and changes nothing
-  pub refused-call : (x : Refusal) → verdict job (length work) (length out) ≡ refused x → Refuses x work out answer work′ out′
-  refused-call x e = subst (λ (v : Parsed). Outcome v work out answer work′ out′) e call
-
-  -- DEMAND 1: an accepted call tells the plan's length, leaves the plan and the bytes behind it, and clears the work words
-  pub accepted-call : (number : ℕ) (runs : List Read) → verdict job (length work) (length out) ≡ accepted number runs
-      → Plans number runs work out answer work′ out′
-  accepted-call number runs e = subst (λ (v : Parsed). Outcome v work out answer work′ out′) e call
-
--- ---- a plan
+-- ---- the plan's bytes, read as a head and entries
 
 -- the plan's own routes: those that its corner records draw
 abbrev pub ownRoutes : List Route → List Route
 ownRoutes routes = map corners routes
 
-module _ (number : ℕ) (runs : List Read) (work out : List ℕ) (answer : Answer) (work′ out′ : List ℕ) (p : Plans number runs work out answer work′ out′) where
-  -- DEMAND 2: each of the plan's own routes is a Manhattan path of its run on the job's Hanan grid; DEMAND 3: no Manhattan paths have a shorter union
-  pub own-least : Least (hanan (runsOf runs)) (runsOf runs) (ownRoutes (p .routes))
-  own-least = corners-least (hanan (runsOf runs)) (runsOf runs) (p .routes) (p .least)
+module _ (number : ℕ) (runs : List Read) (w : WellFormed number runs) (routes : List Route) (l : Least (hanan (runsOf runs)) (runsOf runs) routes) where
+  -- its own routes are least too
+  pub own-least : Least (hanan (runsOf runs)) (runsOf runs) (ownRoutes routes)
+  own-least = corners-least (hanan (runsOf runs)) (runsOf runs) routes l
 
-  -- DEMAND 3: however the plan's bytes are read as a head and route records with corners, the trench figure is the length of the union of the routes
-  -- that these corners draw
-  pub trench-measured : WellFormed number runs → (head : Head) (es : List Entry) → HeadFits head → All (All InRange) (map (λ e. e .corners) es)
-      → bookBytes head es ≡ planOf number runs (p .routes) → head .trench ≡ unionLength (hanan (runsOf runs)) (map (λ e. e .corners) es)
+  -- whatever is read from the plan's bytes has the plan's figures and corners
+  read-least : (head : Head) (es : List Entry) → HeadFits head → All (All InRange) (map (λ e. e .corners) es) → bookBytes head es ≡ planOf number runs routes
+      → LeastPlan runs head es
   unfolding planBytes drawnBytes
-  trench-measured w head es fits in-range e =
+  read-least head es fits in-range e =
       let g = hanan (runsOf runs) in
-      let own = ownRoutes (p .routes) in
+      let own = ownRoutes routes in
       let number-of : ℕ → ℕ = λ i. getD (numbersOf runs) i 0 in
       let h : head ≡ headOf number (numbersOf runs) (runsOf runs) own
       = book-head head (headOf number (numbersOf runs) (runsOf runs) own) es (entriesFrom number-of (meetsOf (runsOf runs)) 0 own) fits
-      (head-fits number runs w (p .routes) (p .least .are-routes)) e in
+      (head-fits number runs w routes (l .are-routes)) e in
       let o = entries-corners number-of (meetsOf (runsOf runs)) 0 own in
       let c : map (λ e. e .corners) es ≡ own
       = book-corners head (headOf number (numbersOf runs) (runsOf runs) own) es (entriesFrom number-of (meetsOf (runsOf runs)) 0 own) in-range
-      (rw o (corners-in runs (w .in-range) (p .routes) (p .least .are-routes))) e ∙ o in
-      ap (λ (x : Head). x .trench) h ∙ ap (unionLength g) (sym c)
+      (rw o (corners-in runs (w .in-range) routes (l .are-routes))) e ∙ o in
+      record {
+        least = subst (Least g (runsOf runs)) (sym c) own-least;
+        trench = ap (λ (x : Head). x .trench) h ∙ ap (unionLength g) (sym c);
+      }
 
--- Two plans of one job have the same trench and the same saved figure; their meets figures are the job's.
-pub same-figures : (number : ℕ) (runs : List Read) (routes others : List Route) → Least (hanan (runsOf runs)) (runsOf runs) routes
-    → Least (hanan (runsOf runs)) (runsOf runs) others
-    → (headOf number (numbersOf runs) (runsOf runs) (ownRoutes routes) .trench ≡ headOf number (numbersOf runs) (runsOf runs) (ownRoutes others) .trench)
-    × (headOf number (numbersOf runs) (runsOf runs) (ownRoutes routes) .saved ≡ headOf number (numbersOf runs) (runsOf runs) (ownRoutes others) .saved)
-same-figures number runs routes others l k =
-    let g = hanan (runsOf runs) in
-    let a = corners-least g (runsOf runs) routes l in
-    let b = corners-least g (runsOf runs) others k in
-    let e : unionLength g (ownRoutes routes) ≡ unionLength g (ownRoutes others)
-    = omega (arith, a .least (ownRoutes others) (b .are-routes), b .least (ownRoutes routes) (a .are-routes)) in
-    (e, ap (λ n. sum distance (runsOf runs) - n) e)
+-- ---- THE DEMANDS of a call, from the contract's outcome
+
+module _ (job : List ℕ) (words : ℕ) (out : List ℕ) (s : Said) (out′ : List ℕ) (b : Bytes job)
+    (call : Outcome (verdict job words (length out)) out s out′) where
+  -- DEMAND 2: a plan is answered exactly if enough is lent, and the job is well formed and a star
+  answered : ((n : ℕ) × (s ≡ gives n)) ↔ Admitted job words (length out)
+  answered = (λ a. forth (verdict job words (length out)) refl call (a .0) (a .1), back)
+    where
+      forth : (v : Parsed) → verdict job words (length out) ≡ v → Outcome v out s out′ → (n : ℕ) → s ≡ gives n → Admitted job words (length out)
+      forth (accepted number runs) e o n a =
+          let (h, k, d) = lent-enough job words (length out) number runs e in
+          let (w, j, t) = job-star job b number runs d in
+          record { words-enough = h; bytes-enough = k; job-in = record { number = number; runs = runs; well-formed = w; written = j }; star = t }
+      forth (refused x) e o n a = absurd (no-plan n (refusalNumber x) (refusalPlace x) (sym a ∙ o .says))
+
+      back : Admitted job words (length out) → (n : ℕ) × (s ≡ gives n)
+      back a =
+          let e = enough job words (length out) (a .words-enough) (a .bytes-enough) ∙ star-job job b (a .job-in) (a .star) in
+          let p = subst (λ (v : Parsed). Outcome v out s out′) e call in
+          (length (planOf (a .job-in .number) (a .job-in .runs) (p .routes)), p .says)
+
+  -- DEMAND 3: however the answered bytes are read
+  least-read : (n : ℕ) → s ≡ gives n → (j : JobIn job) (head : Head) (es : List Entry) → HeadFits head → All (All InRange) (map (λ e. e .corners) es)
+      → bookBytes head es ≡ take n out′ → LeastPlan (j .runs) head es
+  least-read n a j head es fits in-range q = go (verdict job words (length out)) refl call
+    where
+      same-length : (a c : ℕ) → gives a ≡ gives c → a ≡ c
+      same-length a c z = cc
+
+      go : (v : Parsed) → verdict job words (length out) ≡ v → Outcome v out s out′ → LeastPlan (j .runs) head es
+      go (refused x) e o = absurd (no-plan n (refusalNumber x) (refusalPlace x) (sym a ∙ o .says))
+      go (accepted number runs) e p =
+          let d = lent-enough job words (length out) number runs e .2 in
+          let plan = planOf number runs (p .routes) in
+          let size : n ≡ length plan = same-length n (length plan) (sym a ∙ p .says) in
+          let front : take n out′ ≡ plan = ap (λ k. take k out′) size ∙ ap (λ l. take (length plan) l) (p .plan) ∙ take-append-seam plan (drop (length plan) out) in
+          subst (λ rs. LeastPlan rs head es) (same-job job b j number runs (judged-accepts (parse job) number runs d .0) .1)
+          (read-least number runs (job-star job b number runs d .0) (p .routes) (p .least) head es fits in-range (q ∙ front))
+
+  -- of any call with this outcome
+  pub demands : Demands job words out s out′
+  demands = record { demand-2 = answered; demand-3 = least-read }

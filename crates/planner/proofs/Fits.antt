@@ -22,7 +22,7 @@ use Rattle.job.specs.Written.{noRun, InRange, WellFormed}
 use Rattle.plan.specs.Plan.{headOf}
 use Rattle.plan.proofs.Determined.{HeadFits}
 use Rattle.plan.proofs.Determined as determined
-use Rattle.planner.specs.Verdict.{runOf, runsOf, numbersOf}
+use Rattle.planner.specs.Call.{runOf, runsOf, numbersOf}
 
 -- each run is in range
 abbrev pub AllIn : List Read → Type 0

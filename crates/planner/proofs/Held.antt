@@ -19,7 +19,7 @@ use Rattle.job.proofs.Answered.{reading-accepts}
 use Rattle.grid.specs.Tables.{table}
 use Rattle.grid.specs.Runs as grid
 use Rattle.grid.proofs.Tables.{length-table, getD-table}
-use Rattle.planner.specs.Verdict.{runOf, runsOf, numbersOf}
+use Rattle.planner.specs.Call.{runOf, runsOf, numbersOf}
 use Rattle.planner.specs.Held.{runIn, runsIn, Held}
 use Rattle.planner.specs.Coordinates.{RunsInRange}
 

@@ -30,7 +30,7 @@ use Rattle.layout.proofs.Lists.{all-taken}
 use Rattle.layout.proofs.Fitting.{traced-layable}
 use Rattle.layout.proofs.Drawing.{laid-on-grid, laid-best}
 use Rattle.planner.specs.Stages.{tableWords, StarSurveyed, LaidOut}
-use Rattle.planner.proofs.Planned.{words-most}
+use Rattle.planner.proofs.Stages.{words-most}
 
 module _ (runs : List Run) (xs ys : Side) (n c leaves : ℕ) (L : StarSurveyed runs xs ys n c leaves) where
   few-runs : n ≤ 32

@@ -9,6 +9,6 @@ pub mod Distances
 pub mod Judged
 pub mod Laying
 pub mod Writing
-pub mod Planned
+pub mod Stages
 pub mod MapScreen
 pub mod Minus

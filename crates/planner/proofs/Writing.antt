@@ -24,8 +24,8 @@ use Rattle.route.proofs.Corners.{on-numbered, pits-placed}
 use Rattle.plan.specs.declared.Head.{Head}
 use Rattle.plan.specs.Plan.{bookBytes, headOf, meetsOf, entriesAt}
 use Rattle.plan.proofs.Whole.{plan-written, plan-most}
-use Rattle.planner.specs.Verdict.{runsOf, numbersOf, centresOf}
-use Rattle.planner.specs.Outcome.{planOf}
+use Rattle.planner.specs.Verdict.{centresOf}
+use Rattle.planner.specs.Call.{runsOf, numbersOf, planOf}
 use Rattle.planner.specs.Held.{runsIn, Held}
 use Rattle.planner.specs.declared.star.Layout.{Layout}
 use Rattle.planner.specs.Stages.{LaidOut, Lined, drawnBy, ownOf}

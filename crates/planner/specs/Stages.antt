@@ -3,7 +3,7 @@ use mathlib.Core.Path.{_≡_}
 use mathlib.Core.Bool.{true}
 use mathlib.Core.List.{List, map}
 use Prim.Native.Nat.{ℕ, _+_, _*_, _≤_, _<_}
-use lib.ListN.{length, getD, take, replicate}
+use lib.ListN.{length, getD, take}
 use Rattle.network.specs.Lists.{sum, All}
 use Rattle.network.specs.Plane.{Run, distance}
 use Rattle.network.specs.Hanan.{distinct, hanan}
@@ -23,14 +23,10 @@ use Rattle.route.specs.Route.{drawnOf, OnGrid}
 use Rattle.planner.specs.declared.star.Survey.{Survey}
 use Rattle.planner.specs.declared.star.Layout.{Layout}
 use Rattle.job.specs.declared.Job.{Job}
-use Rattle.job.specs.declared.Run.{Run as Read}
-use Rattle.job.specs.Parse.{Parsed}
 use Rattle.intersection.specs.declared.Star.the-variants.{Centre}
 use Rattle.intersection.specs.Star.{meetsIn, neighbourSets, starOf}
-use Rattle.planner.specs.declared.Answer.{Answer}
-use Rattle.planner.specs.declared.Answer.the-variants.{Planned, Refused}
-use Rattle.planner.specs.Verdict.{runsOf, centresOf}
-use Rattle.planner.specs.Outcome.{Plans, Outcome}
+use Rattle.planner.specs.Verdict.{centresOf}
+use Rattle.planner.specs.Call.{runsOf, Said, gives, refuses}
 use Rattle.planner.specs.Held.{runsIn, Held}
 
 -- the words of a table for n runs, which have at most 2 n columns and 2 n rows: four a vertex
@@ -97,18 +93,9 @@ pub record Heading (j : Job) (c total : ℕ) (laid : Layout) : Type 0 where
   pub total-is : total ≡ sum distance (runsOf (runsIn j))
   pub laid-out : LaidOut (runsOf (runsIn j)) laid
 
--- ---- a plan that is drawn, before the work words are cleared: the outcome as if with cleared words of its own
+-- ---- the work words before they are cleared
 
-abbrev pub own : List ℕ
-own = replicate 16384 0
-
-abbrev pub Draws : (number : ℕ) (runs : List Read) (out : List ℕ) → Answer → (out′ : List ℕ) → Type 0
-Draws number runs out answer out′ = Plans number runs own out answer own out′
-
-abbrev pub Drawing : Parsed → (out : List ℕ) → Answer → (out′ : List ℕ) → Type 0
-Drawing v out answer out′ = Outcome v own out answer own out′
-
--- what the answer says of the work words: behind the first 16,384 they stay; where the job is refused all stay
-abbrev pub Left : Answer → (work work′ : List ℕ) → Type 0
-Left (Planned n) work work′ = Beyond work work′ 16384
-Left (Refused x) work work′ = work′ ≡ work
+-- behind the first 16,384 they stay where a plan is said; where a refusal is, all stay
+abbrev pub Left : Said → (work work′ : List ℕ) → Type 0
+Left (gives n) work work′ = Beyond work work′ 16384
+Left (refuses number place) work work′ = work′ ≡ work

@@ -1,26 +1,16 @@
 -- The verdict on a call: "Order: 1, 2; then records front to back; .. last 11. The first that applies is given, and none otherwise" (document 01,
 -- What a call says and leaves). A job is accepted exactly if it is well formed and its intersection graph is a star (demand 2).
 use mathlib.Core.Bool.{Bool, true, false, cond}
-use mathlib.Core.List.{List, [], _∷_, map}
+use mathlib.Core.List.{List, [], _∷_}
 use Prim.Native.Nat.{ℕ}
 use lib.Dec.{ltb}
 use lib.ListN.{length}
-use Rattle.network.specs.Plane.{Run, _to_}
+use Rattle.network.specs.Plane.{Run}
 use Rattle.network.specs.Hanan.{hanan}
 use Rattle.network.specs.Graph.{meets, below, centres}
-use Rattle.job.specs.declared.Run.{Run as Read}
 use Rattle.job.specs.declared.Refusal.the-variants.{ShortWork, ShortPlan, NoStar}
 use Rattle.job.specs.Parse.{Parsed, accepted, refused, parse}
-
--- the runs of a job in the plane, and their numbers
-abbrev pub runOf : Read → Run
-runOf r = record { x = r .x1; y = r .y1 } to record { x = r .x2; y = r .y2 }
-
-abbrev pub runsOf : List Read → List Run
-runsOf runs = map runOf runs
-
-abbrev pub numbersOf : List Read → List ℕ
-numbersOf runs = map (λ r. r .number) runs
+use Rattle.planner.specs.Call.{runsOf}
 
 -- the centres of the job's intersection graph, by their index
 unfoldable pub centresOf : List Run → List ℕ

@@ -6,7 +6,7 @@ ghost use Prim.Native.Nat.{_≤_};
 ghost use Rattle.network.specs.Graph.{below, centres};
 ghost use Rattle.intersection.specs.Star.{meetsIn, neighbourSets};
 ghost use Rattle.intersection.specs.Star.{joinedIn, starOf};
-ghost use Rattle.planner.specs.Verdict.{runsOf};
+ghost use Rattle.planner.specs.Call.{runsOf};
 ghost use Rattle.planner.specs.Held.{runsIn};
 
 // The sets of the runs that each run of a job meets.

@@ -13,9 +13,10 @@ ghost use lib.ListN.{length};
 ghost use Rattle.job.specs.Parse.{accepted, parse};
 ghost use Rattle.table.specs.Rule.{Beyond};
 ghost use Rattle.planner.specs.Verdict.{judged, verdict};
+ghost use Rattle.planner.specs.Call.{said, Plans, Words};
 ghost use Rattle.planner.specs.Outcome.{Outcome, MapOutcome};
 ghost use Rattle.planner.specs.Held.{runsIn, Held};
-ghost use Rattle.planner.specs.Stages.{Lent, Enough, Starred, Draws, Drawing, Left};
+ghost use Rattle.planner.specs.Stages.{Lent, Enough, Starred, Left};
 
 // What a call says: the plan's length, or why there is none.
 pub enum Answer {
@@ -32,7 +33,7 @@ fn plan_star(
     out: &mut [u8],
 ) -> usize
     requires { ⌜ Starred j neighbours centre × Lent (j .count) (now work) (now out) ⌝ }
-    ensures { λ r. ⌜ Draws (j .number) (runsIn j) (now (out .entry)) (Answer.Planned r) (now (out .exit)) × Beyond (now (work .entry)) (now (work .exit)) 16384 ⌝ }
+    ensures { λ r. ⌜ Plans (j .number) (runsIn j) (now (out .entry)) (said (Answer.Planned r)) (now (out .exit)) × Beyond (now (work .entry)) (now (work .exit)) 16384 ⌝ }
 {
     let x = star::columns_of(j);
     let y = star::rows_of(j);
@@ -47,7 +48,7 @@ fn plan_star(
 // The plan of a well-formed job, unless its runs form no star.
 fn plan_job(j: Job, work: &mut [u32], out: &mut [u8]) -> Answer
     requires { ⌜ Held j × Lent (j .count) (now work) (now out) ⌝ }
-    ensures { λ r. ⌜ Drawing (judged (accepted (j .number) (runsIn j))) (now (out .entry)) r (now (out .exit)) × Left r (now (work .entry)) (now (work .exit)) ⌝ }
+    ensures { λ r. ⌜ Outcome (judged (accepted (j .number) (runsIn j))) (now (out .entry)) (said r) (now (out .exit)) × Left (said r) (now (work .entry)) (now (work .exit)) ⌝ }
 {
     let neighbours = judge::neighbours_of(j);
     let star = judge::star_in(&neighbours, j.count);
@@ -60,7 +61,7 @@ fn plan_job(j: Job, work: &mut [u32], out: &mut [u8]) -> Answer
 // The plan of a job, in work words that are enough for a job of so many bytes.
 fn plan_in(job: &[u8], work: &mut [u32], out: &mut [u8]) -> Answer
     requires { ⌜ Enough (length (now job)) (now work) (now out) ⌝ }
-    ensures { λ r. ⌜ Drawing (judged (parse (now (job .entry)))) (now (out .entry)) r (now (out .exit)) × Left r (now (work .entry)) (now (work .exit)) ⌝ }
+    ensures { λ r. ⌜ Outcome (judged (parse (now (job .entry)))) (now (out .entry)) (said r) (now (out .exit)) × Left (said r) (now (work .entry)) (now (work .exit)) ⌝ }
 {
     let reading = job::read(job);
     let answer = reading.answer;
@@ -74,8 +75,8 @@ fn plan_in(job: &[u8], work: &mut [u32], out: &mut [u8]) -> Answer
 // Plans a job: the plan stands in the first bytes of `out`, and `work` is cleared; or the call is refused and changes nothing. `work` has
 // 16,384 words or more, `out` 40,960 bytes or more, or the call is refused.
 pub fn plan(job: &[u8], work: &mut [u32], out: &mut [u8]) -> Answer
-    ensures { λ r. ⌜ Outcome (verdict (now (job .entry)) (length (now (work .entry))) (length (now (out .entry)))) (now (work .entry)) (now (out .entry)) r
-        (now (work .exit)) (now (out .exit)) ⌝ }
+    ensures { λ r. ⌜ Outcome (verdict (now (job .entry)) (length (now (work .entry))) (length (now (out .entry)))) (now (out .entry)) (said r) (now (out .exit))
+        × Words (said r) (now (work .entry)) (now (work .exit)) ⌝ }
 {
     if work.len() < 16384 {
         return Answer::Refused(Refusal::ShortWork);
@@ -97,7 +98,7 @@ pub fn plan(job: &[u8], work: &mut [u32], out: &mut [u8]) -> Answer
 
 fn plan_8(job: &[u8], out: &mut [u8]) -> Answer
     requires { ⌜ (length (now job) ≤ 160) × (40960 ≤ length (now out)) ⌝ }
-    ensures { λ r. ⌜ Drawing (judged (parse (now (job .entry)))) (now (out .entry)) r (now (out .exit)) ⌝ }
+    ensures { λ r. ⌜ Outcome (judged (parse (now (job .entry)))) (now (out .entry)) (said r) (now (out .exit)) ⌝ }
 {
     let mut work = [0u32; 1024];
     plan_in(job, &mut work, out)
@@ -105,7 +106,7 @@ fn plan_8(job: &[u8], out: &mut [u8]) -> Answer
 
 fn plan_16(job: &[u8], out: &mut [u8]) -> Answer
     requires { ⌜ (length (now job) ≤ 312) × (40960 ≤ length (now out)) ⌝ }
-    ensures { λ r. ⌜ Drawing (judged (parse (now (job .entry)))) (now (out .entry)) r (now (out .exit)) ⌝ }
+    ensures { λ r. ⌜ Outcome (judged (parse (now (job .entry)))) (now (out .entry)) (said r) (now (out .exit)) ⌝ }
 {
     let mut work = [0u32; 4096];
     plan_in(job, &mut work, out)
@@ -113,7 +114,7 @@ fn plan_16(job: &[u8], out: &mut [u8]) -> Answer
 
 fn plan_24(job: &[u8], out: &mut [u8]) -> Answer
     requires { ⌜ (length (now job) ≤ 464) × (40960 ≤ length (now out)) ⌝ }
-    ensures { λ r. ⌜ Drawing (judged (parse (now (job .entry)))) (now (out .entry)) r (now (out .exit)) ⌝ }
+    ensures { λ r. ⌜ Outcome (judged (parse (now (job .entry)))) (now (out .entry)) (said r) (now (out .exit)) ⌝ }
 {
     let mut work = [0u32; 9216];
     plan_in(job, &mut work, out)
@@ -121,7 +122,7 @@ fn plan_24(job: &[u8], out: &mut [u8]) -> Answer
 
 fn plan_32(job: &[u8], out: &mut [u8]) -> Answer
     requires { ⌜ 40960 ≤ length (now out) ⌝ }
-    ensures { λ r. ⌜ Drawing (judged (parse (now (job .entry)))) (now (out .entry)) r (now (out .exit)) ⌝ }
+    ensures { λ r. ⌜ Outcome (judged (parse (now (job .entry)))) (now (out .entry)) (said r) (now (out .exit)) ⌝ }
 {
     let mut work = [0u32; 16384];
     plan_in(job, &mut work, out)
@@ -130,7 +131,7 @@ fn plan_32(job: &[u8], out: &mut [u8]) -> Answer
 // By the job's length: a job of n runs has 8 + 19 n bytes.
 fn plan_own(job: &[u8], out: &mut [u8]) -> Answer
     requires { ⌜ 40960 ≤ length (now out) ⌝ }
-    ensures { λ r. ⌜ Drawing (judged (parse (now (job .entry)))) (now (out .entry)) r (now (out .exit)) ⌝ }
+    ensures { λ r. ⌜ Outcome (judged (parse (now (job .entry)))) (now (out .entry)) (said r) (now (out .exit)) ⌝ }
 {
     let n = job.len();
     if n <= 160 {

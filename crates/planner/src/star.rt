@@ -13,8 +13,7 @@ ghost use Rattle.network.specs.Plane.{Run, distance};
 ghost use Rattle.table.specs.Rule.{Beyond};
 ghost use Rattle.plan.specs.Bytes.{Wrote};
 ghost use Rattle.plan.specs.Plan.{headOf};
-ghost use Rattle.planner.specs.Verdict.{runsOf, numbersOf};
-ghost use Rattle.planner.specs.Outcome.{planOf};
+ghost use Rattle.planner.specs.Call.{runsOf, numbersOf, planOf};
 ghost use Rattle.planner.specs.Held.{runsIn, Held};
 ghost use Rattle.planner.specs.Stages.{tableWords, Starred, Surveys, StarSurveyed, LaidOut, Lined, drawnBy, ownOf, Heading};
 

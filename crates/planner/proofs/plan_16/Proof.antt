@@ -2,7 +2,7 @@
 use denote.Ref.{now}
 use native.Mathlib.Omega.{arith}
 use borrow.Author.Needs.{needs}
-use Rattle.planner.proofs.Planned.{own-enough}
+use Rattle.planner.proofs.Stages.{words-suffice}
 use Rattle.planner.proofs.plan_16.Statement.{statement}
 use Rattle.planner.proofs.plan_16.Tie as tie
 
@@ -12,7 +12,7 @@ slice-aggregate-plan-in c = search needs
 plan-in-requires : tie.Need-plan-in-requires
 plan-in-requires c κs =
     let s = c .before .before .before .before in
-    own-enough 16 (now (s .args .job)) (now (s .args .out)) (λ n few e. omega (arith, s .pre .0)) (s .pre .1)
+    words-suffice 16 (now (s .args .job)) (now (s .args .out)) (λ n few e. omega (arith, s .pre .0)) (s .pre .1)
 
 same-length : tie.Need-same-length
 same-length c = search needs

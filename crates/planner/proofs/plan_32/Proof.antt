@@ -1,7 +1,7 @@
 -- The function's own words are enough for 32 runs.
 use denote.Ref.{now}
 use borrow.Author.Needs.{needs}
-use Rattle.planner.proofs.Planned.{own-enough}
+use Rattle.planner.proofs.Stages.{words-suffice}
 use Rattle.planner.proofs.plan_32.Statement.{statement}
 use Rattle.planner.proofs.plan_32.Tie as tie
 
@@ -11,7 +11,7 @@ slice-aggregate-plan-in c = search needs
 plan-in-requires : tie.Need-plan-in-requires
 plan-in-requires c κs =
     let s = c .before .before .before .before in
-    own-enough 32 (now (s .args .job)) (now (s .args .out)) (λ n few e. few) (s .pre)
+    words-suffice 32 (now (s .args .job)) (now (s .args .out)) (λ n few e. few) (s .pre)
 
 same-length : tie.Need-same-length
 same-length c = search needs

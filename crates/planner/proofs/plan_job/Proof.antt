@@ -6,7 +6,8 @@ use Rattle.network.specs.Graph.{below, centres}
 use Rattle.job.specs.declared.Job.{Job}
 use Rattle.intersection.specs.declared.Star.{Star}
 use Rattle.intersection.specs.Star.{meetsIn, neighbourSets, joinedIn, starOf}
-use Rattle.planner.specs.Verdict.{runsOf, centresOf}
+use Rattle.planner.specs.Verdict.{centresOf}
+use Rattle.planner.specs.Call.{runsOf}
 use Rattle.planner.specs.Held.{runsIn, Held}
 use borrow.Author.Needs.{needs}
 use Rattle.planner.proofs.Held.{held-few, length-plane}

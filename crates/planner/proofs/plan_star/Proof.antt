@@ -1,11 +1,11 @@
--- The stages' promises are put together by the laws of `Planned`.
+-- The stages' promises are put together by the laws of `Stages`.
 use borrow.Author.Needs.{needs}
 use native.Mathlib.Omega.{arith}
-use Rattle.planner.specs.Verdict.{runsOf}
+use Rattle.planner.specs.Call.{runsOf}
 use Rattle.planner.specs.Held.{runsIn}
 use Rattle.planner.proofs.Held.{held-few}
 use Rattle.planner.proofs.Writing.{centre-listed}
-use Rattle.planner.proofs.Planned.{star-surveyed, axes-lined, drawn}
+use Rattle.planner.proofs.Stages.{star-surveyed, axes-lined, drawn}
 use Rattle.planner.proofs.plan_star.Statement.{statement}
 use Rattle.planner.proofs.plan_star.Tie as tie
 use Rattle.planner.proofs.plan_star.Reads as reads

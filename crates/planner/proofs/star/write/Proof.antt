@@ -12,7 +12,7 @@ use Rattle.job.specs.declared.Job.{Job}
 use Rattle.plan.specs.Bytes.{Wrote}
 use Rattle.plan.specs.Plan.{meetsOf}
 use native.Mathlib.Omega.{arith}
-use Rattle.planner.specs.Verdict.{runsOf}
+use Rattle.planner.specs.Call.{runsOf}
 use Rattle.planner.specs.Held.{runsIn}
 use Rattle.planner.specs.Stages.{Starred}
 use Rattle.planner.proofs.Held.{held-few, length-plane}

@@ -1,11 +1,11 @@
 -- The plan of a star: what its stages promise, put together.
 use mathlib.Core.Path.{_≡_, refl, sym, ap, _∙_, subst}
 use mathlib.Core.Bool.{true}
-use mathlib.Core.List.{List, [], _∷_, _++_, append-nil}
+use mathlib.Core.List.{List, [], _∷_, _++_}
 use Prim.Native.Nat.{ℕ, _+_, _*_, _≤_, _<_}
 use native.Mathlib.Nat.{mul-le-mul, mul-le-mul-right}
 use native.Mathlib.Omega.{arith}
-use lib.ListN.{length, getD, drop, replicate, length-drop, length-replicate, drop-of-length-le}
+use lib.ListN.{length, getD, drop, replicate, length-drop, length-replicate}
 use lib.Seq.{ext-getD, getD-drop}
 use Rattle.network.specs.Plane.{Run}
 use Rattle.network.specs.Hanan.{hanan}
@@ -19,7 +19,7 @@ use Rattle.intersection.specs.declared.Star.the-variants.{Centre}
 use Rattle.intersection.proofs.Stars.{set-joined}
 use Rattle.job.specs.declared.Job.{Job}
 use Rattle.job.specs.declared.Refusal.{Refusal}
-use Rattle.job.specs.Parse.{Parsed, accepted, refused, parse}
+use Rattle.job.specs.Parse.{parse}
 use Rattle.table.specs.Rule.{Beyond}
 use Rattle.table.proofs.Star.{Surveyed}
 use Rattle.table.proofs.Survey.{surveyed, short}
@@ -28,15 +28,16 @@ use Rattle.planner.specs.declared.Answer.{Answer}
 use Rattle.planner.specs.declared.Answer.the-variants.{Planned, Refused}
 use Rattle.planner.specs.declared.star.Survey.{Survey}
 use Rattle.planner.specs.declared.star.Layout.{Layout}
-use Rattle.planner.specs.Verdict.{runsOf, centresOf, judged, verdict}
-use Rattle.planner.specs.Outcome.{planOf, Outcome}
+use Rattle.planner.specs.Verdict.{centresOf, judged, verdict}
+use Rattle.planner.specs.Call.{runsOf, planOf, gives, said, Plans, Words}
+use Rattle.planner.specs.Outcome.{Outcome}
 use Rattle.planner.specs.Held.{runsIn}
-use Rattle.planner.specs.Stages.{tableWords, Enough, Starred, Surveys, StarSurveyed, LaidOut, Lined, drawnBy, own, Draws, Drawing, Left}
+use Rattle.planner.specs.Stages.{tableWords, Enough, Starred, Surveys, StarSurveyed, LaidOut, Lined, drawnBy, Left}
 use Rattle.planner.proofs.Held.{length-held, plane-held, length-plane, held-few, held-range}
 use Rattle.planner.proofs.Centred.{first-centre}
 use Rattle.planner.proofs.Fits.{lines-most}
 use Rattle.planner.proofs.Writing.{centre-listed}
-use Rattle.planner.proofs.Verdicts.{no-answer, enough}
+use Rattle.planner.proofs.Verdicts.{enough}
 
 -- the star's centre is a centre
 is-centre : (runs : List Run) (c : ℕ) → starOf (centresOf runs) ≡ Centre c → isCentre (meets (hanan runs) runs) (below (length runs)) c ≡ true
@@ -89,20 +90,10 @@ same-behind old new n b =
 
 -- the plan that is written is one of least routes
 pub drawn : (j : Job) (laid : Layout) → LaidOut (runsOf (runsIn j)) laid → (out out′ : List ℕ) (n : ℕ)
-    → Wrote (planOf (j .number) (runsIn j) (drawnBy (runsOf (runsIn j)) laid)) out out′ n → Draws (j .number) (runsIn j) out (Planned n) out′
+    → Wrote (planOf (j .number) (runsIn j) (drawnBy (runsOf (runsIn j)) laid)) out out′ n → Plans (j .number) (runsIn j) out (said (Planned n)) out′
 unfolding over
 drawn j laid L out out′ n w =
-    record {
-      routes = drawnBy (runsOf (runsIn j)) laid;
-      least = L .best .least;
-      answers = ap Planned (w .size);
-      plan = w .bytes;
-      cleared = own-cleared;
-    }
-  where
-    own-cleared : own ≡ replicate 16384 0 ++ drop 16384 own
-    own-cleared =
-        sym (ap (λ l. own ++ l) (drop-of-length-le own {i = 16384} (omega (arith, length-replicate {A = ℕ} 16384 0))) ∙ append-nil own)
+    record { routes = drawnBy (runsOf (runsIn j)) laid; least = L .best .least; says = ap gives (w .size); plan = w .bytes }
 
 -- ---- the work words
 
@@ -115,54 +106,33 @@ pub words-most : (n : ℕ) → n ≤ 32 → tableWords n ≤ 16384
 words-most n h = words-more n 32 h
 
 -- words for m runs are enough for a job that can have no more runs by its length
-pub own-enough : (m : ℕ) (job out : List ℕ) → ((n : ℕ) → n ≤ 32 → length job ≡ 8 + 19 * n → n ≤ m) → 40960 ≤ length out
+pub words-suffice : (m : ℕ) (job out : List ℕ) → ((n : ℕ) → n ≤ 32 → length job ≡ 8 + 19 * n → n ≤ m) → 40960 ≤ length out
     → Enough (length job) (replicate (tableWords m) 0) out
-own-enough m job out h b =
+words-suffice m job out h b =
     record {
       words = λ n few e. subst (λ k. tableWords n ≤ k) (sym (length-replicate {A = ℕ} (tableWords m) 0)) (words-more n m (h n few e));
       bytes = b;
     }
 
--- ---- the outcome of a call with enough words and bytes, of which the job decides
+-- ---- a call with enough words and bytes
 
--- what is drawn, and then cleared
-cleared : (v : Parsed) (work mid work′ out out′ : List ℕ) (n : ℕ) → Drawing v out (Planned n) out′ → Beyond work mid 16384
-    → work′ ≡ replicate 16384 0 ++ drop 16384 mid → Outcome v work out (Planned n) work′ out′
-cleared (accepted number runs) work mid work′ out out′ n d b e =
-    record {
-      routes = d .routes;
-      least = d .least;
-      answers = d .answers;
-      plan = d .plan;
-      cleared = e ∙ ap (λ l. replicate 16384 0 ++ l) (same-behind work mid 16384 b);
-    }
-cleared (refused x) work mid work′ out out′ n d b e = absurd (no-answer n x (d .answers))
-
--- what is refused
-kept : (v : Parsed) (work mid out out′ : List ℕ) (x : Refusal) → Drawing v out (Refused x) out′ → mid ≡ work → Outcome v work out (Refused x) mid out′
-kept (accepted number runs) work mid out out′ x d e = absurd (no-answer (length (planOf number runs (d .routes))) x (sym (d .answers)))
-kept (refused y) work mid out out′ x d e = record { answers = d .answers; work-kept = e; plan-kept = d .plan-kept }
-
-module _ (job work mid out out′ : List ℕ) (r : Answer) (words : 16384 ≤ length work) (bytes : 40960 ≤ length out)
-    (d : Drawing (judged (parse job)) out r out′) (l : Left r work mid) where
-  -- the verdict is the job's
-  abbrev decided : Parsed
-  decided = verdict job (length work) (length out)
-
-  drawing : (a : Answer) → r ≡ a → Drawing decided out a out′
-  drawing a e =
-      subst (λ v. Drawing v out a out′) (sym (enough job (length work) (length out) words bytes)) (subst (λ a. Drawing (judged (parse job)) out a out′) e d)
-
-  left : (a : Answer) → r ≡ a → Left a work mid
-  left a e = subst (λ a. Left a work mid) e l
+-- what is said of the words, once they are cleared or kept
+module _ (work mid : List ℕ) (r : Answer) (l : Left (said r) work mid) where
+  left : (a : Answer) → r ≡ a → Left (said a) work mid
+  left a e = subst (λ a. Left (said a) work mid) e l
 
   -- a plan leaves the words in their number
-  pub still-words : (n : ℕ) → r ≡ Planned n → 16384 ≤ length mid
-  still-words n e = omega (arith, left (Planned n) e .size)
+  pub still-words : (n : ℕ) → r ≡ Planned n → 16384 ≤ length work → 16384 ≤ length mid
+  still-words n e h = omega (arith, left (Planned n) e .size)
 
-  pub then-cleared : (n : ℕ) (work′ : List ℕ) → r ≡ Planned n → work′ ≡ replicate 16384 0 ++ drop 16384 mid
-      → Outcome (verdict job (length work) (length out)) work out (Planned n) work′ out′
-  then-cleared n work′ e z = cleared decided work mid work′ out out′ n (drawing (Planned n) e) (left (Planned n) e) z
+  pub then-cleared : (n : ℕ) (work′ : List ℕ) → r ≡ Planned n → work′ ≡ replicate 16384 0 ++ drop 16384 mid → Words (said (Planned n)) work work′
+  then-cleared n work′ e z = z ∙ ap (λ l. replicate 16384 0 ++ l) (same-behind work mid 16384 (left (Planned n) e))
 
-  pub all-kept : (x : Refusal) → r ≡ Refused x → Outcome (verdict job (length work) (length out)) work out (Refused x) mid out′
-  all-kept x e = kept decided work mid out out′ x (drawing (Refused x) e) (left (Refused x) e)
+  pub all-kept : (x : Refusal) → r ≡ Refused x → Words (said (Refused x)) work mid
+  all-kept x e = left (Refused x) e
+
+-- the verdict is the job's
+pub decided : (job out out′ : List ℕ) (words : ℕ) (r a : Answer) → 16384 ≤ words → 40960 ≤ length out
+    → Outcome (judged (parse job)) out (said r) out′ → r ≡ a → Outcome (verdict job words (length out)) out (said a) out′
+decided job out out′ words r a h k d e =
+    subst (λ v. Outcome v out (said a) out′) (sym (enough job words (length out) h k)) (subst (λ a. Outcome (judged (parse job)) out (said a) out′) e d)
