@@ -7,7 +7,8 @@ use native.Mathlib.Omega.{arith}
 use lib.ListN.{length, getD}
 use Rattle.network.specs.Lists.{each}
 use Rattle.network.specs.Plane.{Run, _to_}
-use Rattle.network.specs.Hanan.{distinct, xs, ys, hanan}
+use Rattle.network.specs.Hanan.{xs, ys, hanan}
+use Rattle.network.specs.Distinct.{distinct}
 use Rattle.network.specs.Graph.{origin, runAt}
 use Rattle.network.specs.Boxes.{Placed}
 use Rattle.network.proofs.Lists.{each-member, index-member}

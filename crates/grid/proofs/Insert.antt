@@ -23,7 +23,8 @@ use native.Mathlib.Omega.{arith}
 use lib.Dec.{ltb}
 use lib.ListN.{length, getD, take, drop}
 use borrow.Author.Tests.{lt-ltb, le-ltb}
-use Rattle.network.specs.Hanan.{insert, distinct, distinct-rises}
+use Rattle.network.specs.DistinctRises.{distinct-rises}
+use Rattle.network.specs.Distinct.{insert, distinct}
 use Rattle.network.specs.Route.{Listed}
 use Rattle.network.proofs.Lists.{member-index, index-member}
 use Rattle.network.proofs.Hanan.{distinct-listed, listed-distinct, only-rising}

@@ -19,7 +19,7 @@ use lib.Seq.{
   getD-set-other,
   getD-take,
 }
-use Rattle.network.specs.Hanan.{insert}
+use Rattle.network.specs.Distinct.{insert}
 use Rattle.grid.specs.declared.Axis.{Axis}
 use Rattle.grid.specs.Tables.{padded}
 use Rattle.grid.specs.Lines.{axisOf, linesOf, indexOf, Room}

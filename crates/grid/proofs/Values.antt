@@ -7,7 +7,8 @@ use native.Mathlib.Omega.{arith}
 use lib.ListN.{length, getD, replicate, length-append}
 use lib.Seq.{take-at}
 use Rattle.network.specs.Grid.{Rising}
-use Rattle.network.specs.Hanan.{insert, distinct, distinct-rises}
+use Rattle.network.specs.DistinctRises.{distinct-rises}
+use Rattle.network.specs.Distinct.{insert, distinct}
 use Rattle.grid.specs.declared.Axis.{Axis}
 use Rattle.grid.specs.Lines.{values, axisOf, linesOf, Room}
 use Rattle.grid.proofs.Insert.{distinct-last, length-distinct}

@@ -1,7 +1,7 @@
 // The columns and rows of a job, and the position of a coordinate in them.
 ghost use mathlib.Core.Path.{_≡_};
 ghost use Prim.Native.Nat.{pred, _≤_, min, max};
-ghost use Rattle.network.specs.Hanan.{insert, distinct};
+ghost use Rattle.network.specs.Distinct.{insert, distinct};
 ghost use Rattle.grid.specs.Tables.{table, padded};
 ghost use Rattle.grid.specs.Lines.{values, axisOf, linesOf, Room, RisingTo, indexOf, lengthAt};
 

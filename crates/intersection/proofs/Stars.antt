@@ -12,10 +12,10 @@ use lib.Seq.{getD-at}
 use Rattle.network.specs.Lists.{select, count}
 use Rattle.network.specs.Plane.{Run}
 use Rattle.network.specs.Grid.{Rising}
-use Rattle.network.specs.Graph.{below, degree, isCentre, centres}
+use Rattle.network.specs.Graph.{below, degree, isCentre, centres, IsCentre}
 use Rattle.network.proofs.Numbers.{order}
 use Rattle.network.proofs.Lists.{selected-member, index-member}
-use Rattle.network.proofs.Centres.{IsCentre, centres-first, first-centres, centres-none, none-centres}
+use Rattle.network.proofs.Centres.{centres-first, first-centres, centres-none, none-centres}
 use Rattle.network.proofs.Leaves.{below-member, below-rises}
 use Rattle.grid.specs.Tables.{table}
 use Rattle.grid.proofs.Tables.{length-table, getD-table, getD-padded}

@@ -21,15 +21,14 @@ use Rattle.sharing.specs.Trace.{Move}
 use Rattle.sharing.specs.Table.{Table, Exact, figure}
 use Rattle.sharing.specs.Walk.{Traced}
 use Rattle.sharing.specs.Star.{starOf, Best}
-use Rattle.sharing.specs.View.{lines}
+use Rattle.sharing.specs.View.{lines, Indexed}
 use Rattle.sharing.proofs.Theorem.{star-best}
-use Rattle.sharing.proofs.Runs.{Indexed}
 use Rattle.route.specs.declared.Route.{Route}
 use Rattle.route.specs.Route.{stepsOf, lane, columnsOf, rowsOf, drawnOf, OnGrid, numbered, length-below}
 use Rattle.table.specs.declared.side.Side.{Side}
 use Rattle.table.specs.Side.{firstOf, secondOf}
-use Rattle.table.proofs.Star.{firsts, seconds, Surveyed, viewOf, boxOf}
-use Rattle.table.proofs.Survey.{surveyed-centred}
+use Rattle.table.specs.OnLines.{firstAt, secondAt, OnLines, viewBy, boxBy}
+use Rattle.table.proofs.Survey.{lines-centred}
 use Rattle.layout.specs.declared.Points.{Points}
 use Rattle.layout.specs.Points.{pointsOf}
 use Rattle.layout.specs.Laid.{unlaid, Layable, AllLayable, Laid, AllLaid}
@@ -107,7 +106,7 @@ all-numbered xs ys n c moves routes h fit all =
 vertex-at : (g : Grid) (p : Point) (i : Dir → ℕ) → Indexed g p i → vertex g (i hor) (i ver) ≡ p
 vertex-at g p i x = point-path (x .at-line hor) (x .at-line ver)
 
-module _ (g : Grid) (runs : List Run) (xs ys : Side) (c leaves : ℕ) (S : Surveyed g runs xs ys c leaves) (moves : List Move) where
+module _ (g : Grid) (runs : List Run) (xs ys : Side) (c leaves : ℕ) (S : OnLines g runs xs ys c leaves) (moves : List Move) where
   -- a route that is laid has a frame of its run
   pub laid-frame : (k : ℕ) → k < length runs → (r : Route) → Layable (pointsOf xs ys c) (pointsOf xs ys k) c moves k
       → Laid (pointsOf xs ys c) (pointsOf xs ys k) c moves k r → Frame g (runAt runs k) (columnsOf r) (rowsOf r)
@@ -120,9 +119,9 @@ module _ (g : Grid) (runs : List Run) (xs ys : Side) (c leaves : ℕ) (S : Surve
       record {
         columns-fit = on .columns-fit;
         rows-fit = on .rows-fit;
-        from = ap₂ (vertex g) (lane-from (r .right) (r .start .column) _ ∙ l .column) (lane-from (r .up) (r .start .row) _ ∙ l .row) ∙ vertex-at g _ (firsts xs ys k) p;
+        from = ap₂ (vertex g) (lane-from (r .right) (r .start .column) _ ∙ l .column) (lane-from (r .up) (r .start .row) _ ∙ l .row) ∙ vertex-at g _ (firstAt xs ys k) p;
         upto = ap₂ (vertex g) (ap (λ z. at z (extent z)) X ∙ lane-upto (firstOf xs k) (secondOf xs k)) (ap (λ z. at z (extent z)) Y ∙ lane-upto (firstOf ys k) (secondOf ys k))
-            ∙ vertex-at g _ (seconds xs ys k) q;
+            ∙ vertex-at g _ (secondAt xs ys k) q;
       }
 
   -- and is a Manhattan route of it
@@ -133,14 +132,14 @@ module _ (g : Grid) (runs : List Run) (xs ys : Side) (c leaves : ℕ) (S : Surve
       (record { all-columns = sym (lane-extent (r .right) (r .start .column) _); all-rows = sym (lane-extent (r .up) (r .start .row) _) })
 
   module _ (few : (d : Dir) → length (lines g d) ≤ 64) (h : c < length runs) (star : isCentre (meets g runs) (below (length runs)) c ≡ true) (T : Table)
-      (exact : Exact (starOf (viewOf g xs ys c) runs (boxOf g xs ys c) c) T) (traced : Traced (starOf (viewOf g xs ys c) runs (boxOf g xs ys c) c) T moves)
+      (exact : Exact (starOf (viewBy g xs ys c) runs (boxBy g xs ys c) c) T) (traced : Traced (starOf (viewBy g xs ys c) runs (boxBy g xs ys c) c) T moves)
       (routes : List Route) (full : length runs ≤ length routes) (laid : AllLaid xs ys (length runs) c moves routes) where
     -- THEOREM: the routes that are laid by the moves traced in a star's table save what the table says, and no routes save more
-    pub laid-best : Best g runs (map (drawnOf g) (take (length runs) routes)) (figure (starOf (viewOf g xs ys c) runs (boxOf g xs ys c) c) T)
+    pub laid-best : Best g runs (map (drawnOf g) (take (length runs) routes)) (figure (starOf (viewBy g xs ys c) runs (boxBy g xs ys c) c) T)
     laid-best =
-        let v = viewOf g xs ys c in
-        let box = boxOf g xs ys c in
-        let C = surveyed-centred g runs xs ys c leaves S h star in
+        let v = viewBy g xs ys c in
+        let box = boxBy g xs ys c in
+        let C = lines-centred g runs xs ys c leaves S h star in
         let all = traced-layable g runs xs ys c leaves S few C star T moves traced in
         let route : ℕ → Route = λ k. getD routes k unlaid in
         star-best v runs box c C T moves traced (λ k. columnsOf (route k)) (λ k. rowsOf (route k))

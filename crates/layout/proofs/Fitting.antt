@@ -25,7 +25,7 @@ use Rattle.sharing.specs.Star.{starOf, Centred, stepsOf}
 use Rattle.sharing.proofs.Leaf.{leaf-leads}
 use Rattle.sharing.proofs.Centre.{leaf-is, separate}
 use Rattle.table.specs.declared.side.Side.{Side}
-use Rattle.table.proofs.Star.{firsts, seconds, Surveyed, viewOf, boxOf}
+use Rattle.table.specs.OnLines.{firstAt, secondAt, OnLines, viewBy, boxBy}
 use Rattle.layout.specs.Points.{pointsOf, goesBack, box64}
 use Rattle.layout.specs.Laid.{stepsBy, AllLayable}
 use Rattle.layout.proofs.Consecutive.{kept-together}
@@ -38,62 +38,62 @@ number-lifted false n i h k = omega arith
 
 -- ---- the boxes
 
-module _ (g : Grid) (runs : List Run) (xs ys : Side) (c leaves : ℕ) (S : Surveyed g runs xs ys c leaves) (few : (d : Dir) → length (lines g d) ≤ 64) where
+module _ (g : Grid) (runs : List Run) (xs ys : Side) (c leaves : ℕ) (S : OnLines g runs xs ys c leaves) (few : (d : Dir) → length (lines g d) ≤ 64) where
   -- how much higher the lines are counted that the code works with
   lift : Dir → ℕ
-  lift d = cond (viewOf g xs ys c .flip d) (64 - length (lines g d)) 0
+  lift d = cond (viewBy g xs ys c .flip d) (64 - length (lines g d)) 0
 
   -- the first point's lines
-  first-lifted : (k : ℕ) → k < length runs → (d : Dir) → box64 (pointsOf xs ys c) (pointsOf xs ys k) .first d ≡ lift d + boxOf g xs ys c k .first d
+  first-lifted : (k : ℕ) → k < length runs → (d : Dir) → box64 (pointsOf xs ys c) (pointsOf xs ys k) .first d ≡ lift d + boxBy g xs ys c k .first d
   unfolding lift goesBack
-  first-lifted k h hor = number-lifted (viewOf g xs ys c .flip hor) (length (lines g hor)) (firsts xs ys k hor) (S .first-at k h .fits hor) (few hor)
-  first-lifted k h ver = number-lifted (viewOf g xs ys c .flip ver) (length (lines g ver)) (firsts xs ys k ver) (S .first-at k h .fits ver) (few ver)
+  first-lifted k h hor = number-lifted (viewBy g xs ys c .flip hor) (length (lines g hor)) (firstAt xs ys k hor) (S .first-at k h .fits hor) (few hor)
+  first-lifted k h ver = number-lifted (viewBy g xs ys c .flip ver) (length (lines g ver)) (firstAt xs ys k ver) (S .first-at k h .fits ver) (few ver)
 
   -- and the second's
-  second-lifted : (k : ℕ) → k < length runs → (d : Dir) → box64 (pointsOf xs ys c) (pointsOf xs ys k) .second d ≡ lift d + boxOf g xs ys c k .second d
+  second-lifted : (k : ℕ) → k < length runs → (d : Dir) → box64 (pointsOf xs ys c) (pointsOf xs ys k) .second d ≡ lift d + boxBy g xs ys c k .second d
   unfolding lift goesBack
-  second-lifted k h hor = number-lifted (viewOf g xs ys c .flip hor) (length (lines g hor)) (seconds xs ys k hor) (S .second-at k h .fits hor) (few hor)
-  second-lifted k h ver = number-lifted (viewOf g xs ys c .flip ver) (length (lines g ver)) (seconds xs ys k ver) (S .second-at k h .fits ver) (few ver)
+  second-lifted k h hor = number-lifted (viewBy g xs ys c .flip hor) (length (lines g hor)) (secondAt xs ys k hor) (S .second-at k h .fits hor) (few hor)
+  second-lifted k h ver = number-lifted (viewBy g xs ys c .flip ver) (length (lines g ver)) (secondAt xs ys k ver) (S .second-at k h .fits ver) (few ver)
 
   -- its boxes have the steps of the view's
-  pub steps-lifted : (moves : List Move) → c < length runs → (k : ℕ) → k < length runs → stepsBy (box64 (pointsOf xs ys c) (pointsOf xs ys c)) (box64 (pointsOf xs ys c) (pointsOf xs ys k)) c moves k ≡ stepsBy (boxOf g xs ys c c) (boxOf g xs ys c k) c moves k
+  pub steps-lifted : (moves : List Move) → c < length runs → (k : ℕ) → k < length runs → stepsBy (box64 (pointsOf xs ys c) (pointsOf xs ys c)) (box64 (pointsOf xs ys c) (pointsOf xs ys k)) c moves k ≡ stepsBy (boxBy g xs ys c c) (boxBy g xs ys c k) c moves k
   steps-lifted moves h k i =
-      let near : (d : Dir) → box64 (pointsOf xs ys c) (pointsOf xs ys c) .first d + moved d (before k moves) ≡ lift d + (boxOf g xs ys c c .first d + moved d (before k moves))
+      let near : (d : Dir) → box64 (pointsOf xs ys c) (pointsOf xs ys c) .first d + moved d (before k moves) ≡ lift d + (boxBy g xs ys c c .first d + moved d (before k moves))
       = λ d. omega (arith, first-lifted c h d) in
-      let box : box64 (pointsOf xs ys c) (pointsOf xs ys k) ≡ lifted lift (boxOf g xs ys c k) = λ j. record { first = λ d. first-lifted k i d j; second = λ d. second-lifted k i d j } in
+      let box : box64 (pointsOf xs ys c) (pointsOf xs ys k) ≡ lifted lift (boxBy g xs ys c k) = λ j. record { first = λ d. first-lifted k i d j; second = λ d. second-lifted k i d j } in
       ap (cond (eqb k c) (dirs moves))
       ((λ j. via (box j) (λ d. near d j) (dirs (stretch k moves)))
-      ∙ via-lifted lift (boxOf g xs ys c k) (λ d. boxOf g xs ys c c .first d + moved d (before k moves)) (dirs (stretch k moves)))
+      ∙ via-lifted lift (boxBy g xs ys c k) (λ d. boxBy g xs ys c c .first d + moved d (before k moves)) (dirs (stretch k moves)))
 
   -- ---- the moves
 
-  module _ (C : Centred (viewOf g xs ys c) runs (boxOf g xs ys c) c) (star : isCentre (meets g runs) (below (length runs)) c ≡ true) (T : Table) (moves : List Move)
-      (traced : Traced (starOf (viewOf g xs ys c) runs (boxOf g xs ys c) c) T moves) where
+  module _ (C : Centred (viewBy g xs ys c) runs (boxBy g xs ys c) c) (star : isCentre (meets g runs) (below (length runs)) c ≡ true) (T : Table) (moves : List Move)
+      (traced : Traced (starOf (viewBy g xs ys c) runs (boxBy g xs ys c) c) T moves) where
     -- every other run is a leaf
     others : (k : ℕ) → k < length runs → ¬ (k ≡ c) → meets g runs c k ≡ true
     others k h n = centre-true (meets g runs) (below (length runs)) c (member-below (length runs) c (C .listed)) star .joins k (member-below (length runs) k h) n
 
     -- the steps by the boxes are those of the star
     pub steps-are : (k : ℕ) → k < length runs
-        → stepsBy (boxOf g xs ys c c) (boxOf g xs ys c k) c moves k ≡ stepsOf (starOf (viewOf g xs ys c) runs (boxOf g xs ys c) c) c moves k
+        → stepsBy (boxBy g xs ys c c) (boxBy g xs ys c k) c moves k ≡ stepsOf (starOf (viewBy g xs ys c) runs (boxBy g xs ys c) c) c moves k
     steps-are k h = go (ℕ-discrete k c)
       where
-        go : Dec (k ≡ c) → stepsBy (boxOf g xs ys c c) (boxOf g xs ys c k) c moves k ≡ stepsOf (starOf (viewOf g xs ys c) runs (boxOf g xs ys c) c) c moves k
+        go : Dec (k ≡ c) → stepsBy (boxBy g xs ys c c) (boxBy g xs ys c k) c moves k ≡ stepsOf (starOf (viewBy g xs ys c) runs (boxBy g xs ys c) c) c moves k
         go (yes e) = rw (eq-eqb k c e)
         go (no n) =
-            ap (λ b. cond (eqb k c) (dirs moves) (via b (λ d. boxOf g xs ys c c .first d + moved d (before k moves)) (dirs (stretch k moves))))
-            (sym (leaf-is (viewOf g xs ys c) runs (boxOf g xs ys c) c C k (others k h n)))
+            ap (λ b. cond (eqb k c) (dirs moves) (via b (λ d. boxBy g xs ys c c .first d + moved d (before k moves)) (dirs (stretch k moves))))
+            (sym (leaf-is (viewBy g xs ys c) runs (boxBy g xs ys c) c C k (others k h n)))
 
     leads : (k : ℕ) → k < length runs → (d : Dir)
-        → steps d (stepsBy (boxOf g xs ys c c) (boxOf g xs ys c k) c moves k) ≡ gap (boxOf g xs ys c k .first d) (boxOf g xs ys c k .second d)
+        → steps d (stepsBy (boxBy g xs ys c c) (boxBy g xs ys c k) c moves k) ≡ gap (boxBy g xs ys c k .first d) (boxBy g xs ys c k .second d)
     leads k h d = go (ℕ-discrete k c)
       where
-        go : Dec (k ≡ c) → steps d (stepsBy (boxOf g xs ys c c) (boxOf g xs ys c k) c moves k) ≡ gap (boxOf g xs ys c k .first d) (boxOf g xs ys c k .second d)
+        go : Dec (k ≡ c) → steps d (stepsBy (boxBy g xs ys c c) (boxBy g xs ys c k) c moves k) ≡ gap (boxBy g xs ys c k .first d) (boxBy g xs ys c k .second d)
         go (yes e) =
-            rw (eq-eqb k c e, e) (omega (arith, traced .leads d, gap-rise (boxOf g xs ys c c .first d) (boxOf g xs ys c c .second d) (C .rises d)))
+            rw (eq-eqb k c e, e) (omega (arith, traced .leads d, gap-rise (boxBy g xs ys c c .first d) (boxBy g xs ys c c .second d) (C .rises d)))
         go (no n) =
-            let v = viewOf g xs ys c in
-            let box = boxOf g xs ys c in
+            let v = viewBy g xs ys c in
+            let box = boxBy g xs ys c in
             let I = starOf v runs box c in
             ap (steps d) (steps-are k h ∙ ap (λ t. cond t (dirs moves) (leafSteps I k moves)) (ne-eqb k c n))
             ∙ (rw reverse-reverse at (leaf-leads I (separate v runs box c C) k (reverse moves) (traced .kept) d))
@@ -109,7 +109,7 @@ module _ (g : Grid) (runs : List Run) (xs ys : Side) (c leaves : ℕ) (S : Surve
             in-columns = (omega (arith, S .first-at k h .fits hor, few hor), omega (arith, S .second-at k h .fits hor, few hor));
             in-rows = (omega (arith, S .first-at k h .fits ver, few ver), omega (arith, S .second-at k h .fits ver, few ver));
             leads = λ d. ap (steps d) (steps-lifted moves (C .listed) k h) ∙ leads k h d
-                ∙ sym (ap₂ gap (first-lifted k h d) (second-lifted k h d) ∙ gap-lifted (lift d) (boxOf g xs ys c k .first d) (boxOf g xs ys c k .second d));
-            together = λ n. kept-together (starOf (viewOf g xs ys c) runs (boxOf g xs ys c) c) (separate (viewOf g xs ys c) runs (boxOf g xs ys c) c C) k moves (traced .kept);
+                ∙ sym (ap₂ gap (first-lifted k h d) (second-lifted k h d) ∙ gap-lifted (lift d) (boxBy g xs ys c k .first d) (boxBy g xs ys c k .second d));
+            together = λ n. kept-together (starOf (viewBy g xs ys c) runs (boxBy g xs ys c) c) (separate (viewBy g xs ys c) runs (boxBy g xs ys c) c C) k moves (traced .kept);
           };
         }

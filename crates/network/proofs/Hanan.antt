@@ -14,7 +14,8 @@ use Rattle.network.specs.Grid.{Rising, Grid}
 use Rattle.network.specs.Route.{Route, Listed, Manhattan, Routes}
 use Rattle.network.specs.Graph.{origin, runAt}
 use Rattle.network.specs.Steps.{Lane, Frame}
-use Rattle.network.specs.Hanan.{insert, distinct, xs, ys, hanan}
+use Rattle.network.specs.Hanan.{xs, ys, hanan}
+use Rattle.network.specs.Distinct.{insert, distinct}
 use Rattle.network.specs.Boxes.{Placed}
 use Rattle.network.proofs.Lists.{member-index, index-member}
 use Rattle.network.proofs.Rising.{rising-head, rising-tail}

@@ -10,13 +10,12 @@ use lib.Seq.{getD-at}
 use Rattle.network.specs.Lists.{All}
 use Rattle.network.specs.Plane.{Run}
 use Rattle.network.specs.Grid.{Rising, Grid}
-use Rattle.network.specs.Graph.{overlap, runAt, meets, below}
+use Rattle.network.specs.Graph.{overlap, runAt, meets, below, IsCentre}
 use Rattle.network.specs.Apart.{Apart}
 use Rattle.network.proofs.Tests.{is-false}
 use Rattle.network.proofs.Lists.{each-member, member-each}
 use Rattle.network.proofs.Rising.{rising-head, rising-tail}
 use Rattle.network.proofs.Meeting.{meets-true, true-meets, overlap-comm, point-overlap}
-use Rattle.network.proofs.Centres.{IsCentre}
 
 -- ---- the group of all runs
 

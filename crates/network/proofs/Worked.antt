@@ -6,7 +6,8 @@ use Prim.Native.Nat.{ℕ, _≤_}
 use native.Mathlib.Omega.{arith}
 use Rattle.network.specs.Plane.{Point, Run, _to_, gap, distance}
 use Rattle.network.specs.Grid.{len, edges, spans, inside}
-use Rattle.network.specs.Hanan.{insert, distinct, hanan}
+use Rattle.network.specs.Hanan.{hanan}
+use Rattle.network.specs.Distinct.{insert, distinct}
 use Rattle.network.specs.Route.{Route, level, lies, Manhattan, Routes, unionLength, Least}
 use Rattle.network.specs.Graph.{overlap, meets, below, degree, isCentre, centres}
 use Rattle.network.specs.Excess.{excess}

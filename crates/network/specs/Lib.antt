@@ -2,12 +2,15 @@
 pub mod Lists
 pub mod Plane
 pub mod Grid
+pub mod Distinct
+pub mod DistinctRises
 pub mod Hanan
 pub mod Route
 pub mod Graph
 pub mod Excess
 pub mod Steps
 pub mod Corners
+pub mod Pits
 pub mod Slopes
 pub mod Apart
 pub mod Boxes

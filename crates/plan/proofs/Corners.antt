@@ -12,10 +12,10 @@ use Rattle.route.specs.declared.Walker.{Walker}
 use Rattle.route.specs.declared.Stepped.{Stepped}
 use Rattle.route.specs.Route.{OnGrid, numbered, cornersOf, placed}
 use Rattle.route.specs.Walker.{standing, stepped}
-use Rattle.route.specs.Pits.{crossing}
+use Rattle.route.specs.Marked.{crossing}
 use Rattle.route.proofs.Walk.{On, left, left-some, on-start, on-step, left-turned, left-straight, left-end}
 use Rattle.route.proofs.Corners.{left-start, corners-few}
-use Rattle.plan.specs.Bytes.{Wrote}
+use Rattle.plan.specs.Writers.{Wrote}
 use Rattle.plan.specs.Records.{cornerRecord}
 use Rattle.plan.proofs.Over.{Rest, rest-all, rest-next, rest-none}
 

@@ -16,6 +16,7 @@ use Rattle.job.proofs.Signed.{biased-of-word}
 use Rattle.plan.specs.declared.Head.{Head}
 use Rattle.plan.specs.Records.{cornerRecord, endRecord}
 use Rattle.plan.specs.Plan.{Entry, entryBytes, totalCorners, bookBytes}
+use Rattle.plan.specs.Fits.{PointIn, EntryFits, HeadFits}
 
 -- ---- fields
 
@@ -33,13 +34,8 @@ same-coordinate c d r s h k e =
 
 -- ---- corners
 
--- a coordinate lies in its range
-pub record InRange (p : Point) : Type 0 where
-  pub x-in : p .x ≤ 2000000
-  pub y-in : p .y ≤ 2000000
-
 -- equal bytes that begin with a corner record: the corner is the same, and so is what follows
-same-corner : (p q : Point) (r s : List ℕ) → InRange p → InRange q → cornerRecord p ++ r ≡ cornerRecord q ++ s → (p ≡ q) × (r ≡ s)
+same-corner : (p q : Point) (r s : List ℕ) → PointIn p → PointIn q → cornerRecord p ++ r ≡ cornerRecord q ++ s → (p ≡ q) × (r ≡ s)
 same-corner p q r s h k e = (
   point-path
       (same-coordinate (p .x) (q .x) (bytes4 (wordOf (p .y)) ++ r) (bytes4 (wordOf (q .y)) ++ s) (h .x-in) (k .x-in) (ap (drop 1) e))
@@ -52,7 +48,7 @@ abbrev NoCorner : List ℕ → Type 0
 NoCorner r = getD r 0 0 ≡ 0x43 → ⊥
 
 -- the corners up to the first other record are the same
-same-corners : (l k : List Point) (r s : List ℕ) → All InRange l → All InRange k → NoCorner r → NoCorner s
+same-corners : (l k : List Point) (r s : List ℕ) → All PointIn l → All PointIn k → NoCorner r → NoCorner s
     → flatMap cornerRecord l ++ r ≡ flatMap cornerRecord k ++ s → (l ≡ k) × (r ≡ s)
 unfolding flatMap
 same-corners [] [] r s a b m n e = (refl, e)
@@ -64,11 +60,6 @@ same-corners (p ∷ l) (q ∷ k) r s a b m n e =
     (cc (t .0, u .0), u .1)
 
 -- ---- entries
-
--- a run's figures fit their fields
-pub record EntryFits (e : Entry) : Type 0 where
-  pub number-fits : e .number < 65536
-  pub meets-fits : e .meets < 65536
 
 -- bytes that begin with an end record
 abbrev Ends : List ℕ → Type 0
@@ -85,7 +76,7 @@ abbrev cornersIn : List Entry → List Route
 cornersIn es = map (λ e. e .corners) es
 
 -- the entries up to the end record have the same corners, and are the same where their figures fit
-same-entries : (es fs : List Entry) (r s : List ℕ) → All (All InRange) (cornersIn es) → All (All InRange) (cornersIn fs) → Ends r → Ends s
+same-entries : (es fs : List Entry) (r s : List ℕ) → All (All PointIn) (cornersIn es) → All (All PointIn) (cornersIn fs) → Ends r → Ends s
     → flatMap entryBytes es ++ r ≡ flatMap entryBytes fs ++ s
     → (cornersIn es ≡ cornersIn fs) × (All EntryFits es → All EntryFits fs → es ≡ fs) × (r ≡ s)
 unfolding flatMap
@@ -111,7 +102,7 @@ same-entries (x ∷ es) (y ∷ fs) r s a b m n e =
 
 -- ---- the whole plan
 
-module _ (g h : Head) (es fs : List Entry) (a : All (All InRange) (cornersIn es)) (b : All (All InRange) (cornersIn fs)) (e : bookBytes g es ≡ bookBytes h fs) where
+module _ (g h : Head) (es fs : List Entry) (a : All (All PointIn) (cornersIn es)) (b : All (All PointIn) (cornersIn fs)) (e : bookBytes g es ≡ bookBytes h fs) where
   -- both plans, read off from behind the head
   read-off : (cornersIn es ≡ cornersIn fs) × (All EntryFits es → All EntryFits fs → es ≡ fs) × (endRecord (totalCorners es) ≡ endRecord (totalCorners fs))
   unfolding bookBytes
@@ -124,15 +115,6 @@ module _ (g h : Head) (es fs : List Entry) (a : All (All InRange) (cornersIn es)
   -- and the same numbers and meets figures, where these fit their fields
   pub book-entries : All EntryFits es → All EntryFits fs → es ≡ fs
   book-entries = read-off .1
-
--- a head's figures fit their fields
-pub record HeadFits (h : Head) : Type 0 where
-  pub job-fits : h .job < 2 ^ 32
-  pub runs-fits : h .runs < 65536
-  pub trench-fits : h .trench < 2 ^ 32
-  pub saved-fits : h .saved < 2 ^ 32
-  pub pits-fits : h .pits < 65536
-  pub centre-fits : h .centre < 65536
 
 -- Two plans with the same bytes have the same figures, where these fit their fields.
 pub book-head : (g h : Head) (es fs : List Entry) → HeadFits g → HeadFits h → bookBytes g es ≡ bookBytes h fs → g ≡ h

@@ -4,11 +4,11 @@ use mathlib.Core.List.{List, [], _∷_, flatMap, flatten}
 use Prim.Native.Nat.{ℕ, _+_}
 use Rattle.network.specs.Plane.{Point, Run, _to_, gap, distance}
 use Rattle.network.specs.Grid.{len, edges, spans, inside}
-use Rattle.network.specs.Hanan.{insert, distinct}
+use Rattle.network.specs.Distinct.{insert, distinct}
 use Rattle.network.specs.Route.{Route, level, lies, unionLength}
 use Rattle.network.specs.Graph.{overlap, meets, degree, isCentre, centres}
 use Rattle.network.specs.Corners.{samePoint, straightOn}
-use Rattle.route.specs.Pits.{unique, pitsOf}
+use Rattle.network.specs.Pits.{unique, pitsOf}
 use Rattle.plan.specs.Plan.{bookBytes, drawnBytes, planBytes}
 
 -- a point in decimetres, neither coordinate below 0

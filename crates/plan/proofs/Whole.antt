@@ -17,9 +17,11 @@ use Rattle.route.proofs.Lists.{map-cong}
 use Rattle.route.proofs.Corners.{corners-placed}
 use Rattle.route.proofs.Few.{manhattan-few}
 use Rattle.plan.specs.declared.Head.{Head}
-use Rattle.plan.specs.Plan.{Entry, bookBytes, entriesFrom, headOf, meetsOf, drawnBytes, planBytes, entriesAt}
+use Rattle.plan.specs.Plan.{Entry, bookBytes, entriesFrom, headOf, meetsOf, drawnBytes, planBytes}
+use Rattle.plan.specs.Writers.{entriesAt}
 use Rattle.plan.proofs.Length.{book-most, entries-length, entries-all}
-use Rattle.plan.proofs.Determined.{InRange, book-corners, HeadFits, book-head}
+use Rattle.plan.proofs.Determined.{book-corners, book-head}
+use Rattle.plan.specs.Fits.{PointIn, HeadFits}
 
 -- ---- the bytes determine the corners
 
@@ -29,7 +31,7 @@ entries-corners number meets i [] = refl
 entries-corners number meets i (c ∷ own) = ap (λ l. c ∷ l) (entries-corners number meets (suc i) own)
 
 -- Two plans with the same bytes, of whatever jobs, draw the same routes.
-pub drawn-same : (j k : ℕ) (ns ms : List ℕ) (runs others : List Run) (own theirs : List Route) → All (All InRange) own → All (All InRange) theirs
+pub drawn-same : (j k : ℕ) (ns ms : List ℕ) (runs others : List Run) (own theirs : List Route) → All (All PointIn) own → All (All PointIn) theirs
     → drawnBytes j ns runs own ≡ drawnBytes k ms others theirs → own ≡ theirs
 unfolding drawnBytes
 drawn-same j k ns ms runs others own theirs a b e =
@@ -39,7 +41,7 @@ drawn-same j k ns ms runs others own theirs a b e =
 
 -- Two plans with the same bytes, of whatever jobs, have the same corners.
 pub plan-same : (j k : ℕ) (ns ms : List ℕ) (runs others : List Run) (routes theirs : List Route)
-    → All (All InRange) (map corners routes) → All (All InRange) (map corners theirs)
+    → All (All PointIn) (map corners routes) → All (All PointIn) (map corners theirs)
     → planBytes j ns runs routes ≡ planBytes k ms others theirs → map corners routes ≡ map corners theirs
 unfolding planBytes
 plan-same j k ns ms runs others routes theirs = drawn-same j k ns ms runs others (map corners routes) (map corners theirs)

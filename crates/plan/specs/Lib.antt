@@ -2,3 +2,5 @@
 pub mod Bytes
 pub mod Records
 pub mod Plan
+pub mod Fits
+pub mod Writers

@@ -1,8 +1,7 @@
 -- The bytes of a plan (01, Plan book): first from given figures, then of a job's routes, with every figure measured on the routes that the corner
 -- records draw.
-use mathlib.Core.Path.{_≡_}
 use mathlib.Core.List.{List, [], _∷_, _++_, map, flatMap}
-use Prim.Native.Nat.{ℕ, suc, _-_, _≤_}
+use Prim.Native.Nat.{ℕ, suc, _-_}
 use lib.ListN.{length, getD}
 use Rattle.network.specs.Lists.{sum}
 use Rattle.network.specs.Plane.{Run, distance}
@@ -10,12 +9,8 @@ use Rattle.network.specs.Hanan.{hanan}
 use Rattle.network.specs.Route.{Route, unionLength}
 use Rattle.network.specs.Graph.{meets, below, degree, centres}
 use Rattle.network.specs.Corners.{corners}
-use Rattle.route.specs.declared.Route.{Route as Steps}
-use Rattle.route.specs.Route.{cornersOf, placed}
-use Rattle.route.specs.Pits.{pitsOf}
+use Rattle.network.specs.Pits.{pitsOf}
 use Rattle.plan.specs.declared.Head.{Head}
-use Rattle.plan.specs.declared.Written.{Written}
-use Rattle.plan.specs.Bytes.{Wrote}
 use Rattle.plan.specs.Records.{headRecord, routeRecord, cornerRecord, endRecord}
 
 -- ---- from given figures
@@ -69,19 +64,3 @@ drawnBytes job numbers runs own =
 -- the plan of some routes: its corners are their ends and turns
 unfoldable pub planBytes : (job : ℕ) (numbers : List ℕ) → List Run → List Route → List ℕ
 planBytes job numbers runs routes = drawnBytes job numbers runs (map corners routes)
-
--- ---- of the routes that the code holds, in line indexes, with tables of the columns and the rows
-
-abbrev pub entryAt : (columns rows : List ℕ) (number meets : ℕ) → Steps → Entry
-entryAt columns rows number meets r = record { number = number; meets = meets; corners = map (placed columns rows) (cornersOf r) }
-
--- the runs' numbers and meets figures stand in tables too
-unfoldable pub entriesAt : (columns rows numbers meets : List ℕ) → List Steps → List Entry
-entriesAt columns rows numbers meets routes =
-    entriesFrom (λ i. getD numbers i 0) (λ i. getD meets i 0) 0 (map (λ r. map (placed columns rows) (cornersOf r)) routes)
-
--- what the writer of the runs makes of xs
-pub record WroteRuns (es : List Entry) (xs ys : List ℕ) (w : Written) : Type 0 where
-  pub wrote : Wrote (flatMap entryBytes es) xs ys (w .bytes)
-  pub total : w .corners ≡ totalCorners es
-  pub few : w .corners ≤ 4064

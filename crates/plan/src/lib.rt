@@ -10,10 +10,11 @@ ghost use Rattle.network.specs.Lists.{All};
 ghost use Rattle.job.specs.Fields.{wordOf};
 ghost use Rattle.job.specs.Written.{bytes2, bytes4};
 ghost use Rattle.route.specs.Route.{OnGrid, numbered, cornersOf, placed};
-ghost use Rattle.route.specs.Pits.{crossing};
-ghost use Rattle.plan.specs.Bytes.{over, behind, Wrote};
+ghost use Rattle.route.specs.Marked.{crossing};
+ghost use Rattle.plan.specs.Bytes.{over};
+ghost use Rattle.plan.specs.Writers.{behind, Wrote, entryAt, entriesAt, WroteRuns};
 ghost use Rattle.plan.specs.Records.{headRecord, routeRecord, cornerRecord, endRecord};
-ghost use Rattle.plan.specs.Plan.{entryBytes, bookBytes, entryAt, entriesAt, WroteRuns};
+ghost use Rattle.plan.specs.Plan.{entryBytes, bookBytes};
 
 // The figures of a plan's head. Of runs, pits and centre the lower two bytes are written.
 pub struct Head {

@@ -15,10 +15,11 @@ use Rattle.network.proofs.Centres.{true-centre, centres-first}
 use Rattle.network.proofs.Leaves.{below-member, below-rises}
 use Rattle.grid.specs.Lines.{axisOf}
 use Rattle.grid.proofs.Places.{position-line}
+use Rattle.sharing.specs.View.{Indexed, viewOf, boxOf}
 use Rattle.sharing.specs.Star.{Centred}
-use Rattle.sharing.proofs.Runs.{Indexed, star-seen}
+use Rattle.sharing.proofs.Runs.{star-seen}
 use Rattle.planner.specs.Verdict.{centresOf}
-use Rattle.planner.specs.Places.{placeOf, firsts, seconds, viewOf, boxOf}
+use Rattle.planner.specs.Places.{placeOf, firsts, seconds}
 
 -- a vertex of the Hanan grid stands where the lines of its indexes cross
 vertex-indexed : (runs : List Run) (p : Point) → Vertex (hanan runs) p → Indexed (hanan runs) p (placeOf runs p)
@@ -42,7 +43,7 @@ module _ (runs : List Run) where
       (below-member (length runs) c (s .member), true-centre (meets (hanan runs) runs) (below (length runs)) c s)
 
   -- the first centre, in its own view
-  pub centred : (c : ℕ) (rest : List ℕ) → centresOf runs ≡ c ∷ rest → Centred (viewOf runs c) runs (boxOf runs c) c
+  pub centred : (c : ℕ) (rest : List ℕ) → centresOf runs ≡ c ∷ rest → Centred (viewOf (hanan runs) (firsts runs) (seconds runs) c) runs (boxOf (hanan runs) (firsts runs) (seconds runs) c) c
   centred c rest e =
       let (h, star) = first-centre c rest e in
       star-seen (hanan runs) runs (firsts runs) (seconds runs) first-indexed second-indexed c h star

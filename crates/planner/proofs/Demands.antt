@@ -13,7 +13,7 @@ use Rattle.network.specs.Lists.{sum, All}
 use Rattle.network.specs.Plane.{Run, distance}
 use Rattle.network.specs.Hanan.{hanan}
 use Rattle.network.specs.Route.{Route, unionLength, Least}
-use Rattle.network.specs.Graph.{meets, below, centres}
+use Rattle.network.specs.Graph.{meets, below, centres, IsCentre}
 use Rattle.network.specs.Corners.{corners}
 use Rattle.network.proofs.Centres.{centres-first, centres-none}
 use Rattle.network.proofs.Corners.{corners-least}
@@ -26,7 +26,8 @@ use Rattle.job.specs.Written.{Bytes, WellFormed, bytesOf}
 use Rattle.job.proofs.Accepted.{accepted-iff}
 use Rattle.plan.specs.declared.Head.{Head}
 use Rattle.plan.specs.Plan.{Entry, bookBytes, entriesFrom, headOf, meetsOf, drawnBytes, planBytes}
-use Rattle.plan.proofs.Determined.{InRange, HeadFits, book-head, book-corners}
+use Rattle.plan.proofs.Determined.{book-head, book-corners}
+use Rattle.plan.specs.Fits.{PointIn, HeadFits}
 use Rattle.plan.proofs.Whole.{entries-corners}
 use Rattle.planner.specs.Verdict.{centresOf, isStar, judged, verdict}
 use Rattle.planner.specs.Call.{runsOf, numbersOf, planOf, Said, gives}
@@ -121,7 +122,7 @@ module _ (number : ℕ) (runs : List Read) (w : WellFormed number runs) (routes 
   own-least = corners-least (hanan (runsOf runs)) (runsOf runs) routes l
 
   -- whatever is read from the plan's bytes has the plan's figures and corners
-  read-least : (head : Head) (es : List Entry) → HeadFits head → All (All InRange) (map (λ e. e .corners) es) → bookBytes head es ≡ planOf number runs routes
+  read-least : (head : Head) (es : List Entry) → HeadFits head → All (All PointIn) (map (λ e. e .corners) es) → bookBytes head es ≡ planOf number runs routes
       → LeastPlan runs head es
   unfolding planBytes drawnBytes
   read-least head es fits in-range e =
@@ -162,7 +163,7 @@ module _ (job : List ℕ) (words : ℕ) (out : List ℕ) (s : Said) (out′ : Li
           (length (planOf (a .job-in .number) (a .job-in .runs) (p .routes)), p .says)
 
   -- DEMAND 3: however the answered bytes are read
-  least-read : (n : ℕ) → s ≡ gives n → (j : JobIn job) (head : Head) (es : List Entry) → HeadFits head → All (All InRange) (map (λ e. e .corners) es)
+  least-read : (n : ℕ) → s ≡ gives n → (j : JobIn job) (head : Head) (es : List Entry) → HeadFits head → All (All PointIn) (map (λ e. e .corners) es)
       → bookBytes head es ≡ take n out′ → LeastPlan (j .runs) head es
   least-read n a j head es fits in-range q = go (verdict job words (length out)) refl call
     where

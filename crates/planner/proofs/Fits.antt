@@ -15,13 +15,12 @@ use Rattle.network.proofs.Counting.{counting}
 use Rattle.network.proofs.Corners.{corners-routes}
 use Rattle.network.proofs.Hanan.{distinct-listed}
 use Rattle.grid.proofs.Insert.{length-distinct}
-use Rattle.route.specs.Pits.{among, unique, pitsOf}
+use Rattle.network.specs.Pits.{among, unique, pitsOf}
 use Rattle.route.proofs.Few.{manhattan-few}
 use Rattle.job.specs.declared.Run.{Run as Read}
 use Rattle.job.specs.Written.{noRun, InRange, WellFormed}
 use Rattle.plan.specs.Plan.{headOf}
-use Rattle.plan.proofs.Determined.{HeadFits}
-use Rattle.plan.proofs.Determined as determined
+use Rattle.plan.specs.Fits.{PointIn, HeadFits}
 use Rattle.planner.specs.Call.{runOf, runsOf, numbersOf}
 
 -- each run is in range
@@ -46,7 +45,7 @@ y-bounded (r ∷ l) h (suc zero) k = h 0 (omega arith) .y2-in
 y-bounded (r ∷ l) h (suc (suc i)) k = y-bounded l (tail-in r l h) i (omega arith)
 
 -- a vertex of the job's grid is in range
-pub vertex-in : (l : List Read) → AllIn l → (p : Point) → Vertex (hanan (runsOf l)) p → determined.InRange p
+pub vertex-in : (l : List Read) → AllIn l → (p : Point) → Vertex (hanan (runsOf l)) p → PointIn p
 vertex-in l h p v =
     let (i, a, e) = distinct-listed (xs (runsOf l)) (p .x) (v .column) in
     let (j, b, d) = distinct-listed (ys (runsOf l)) (p .y) (v .row) in
@@ -66,17 +65,17 @@ few-lines l h = omega (arith, lines-most l)
 
 -- ---- corners
 
-all-in : (l : List Read) → AllIn l → (p : List Point) → All (Vertex (hanan (runsOf l))) p → All determined.InRange p
+all-in : (l : List Read) → AllIn l → (p : List Point) → All (Vertex (hanan (runsOf l))) p → All PointIn p
 all-in l h [] v = tt
 all-in l h (p ∷ ps) v = (vertex-in l h p (v .0), all-in l h ps (v .1))
 
-routes-in : (l : List Read) → AllIn l → (rs : List Run) (routes : List Route) → Routes (hanan (runsOf l)) rs routes → All (All determined.InRange) routes
+routes-in : (l : List Read) → AllIn l → (rs : List Run) (routes : List Route) → Routes (hanan (runsOf l)) rs routes → All (All PointIn) routes
 routes-in l h [] [] m = tt
 routes-in l h (r ∷ rs) (route ∷ routes) m = (all-in l h route (m .0 .vertices), routes-in l h rs routes (m .1))
 
 -- the corners of a plan are in range
 pub corners-in : (l : List Read) → AllIn l → (routes : List Route) → Routes (hanan (runsOf l)) (runsOf l) routes
-    → All (All determined.InRange) (map corners routes)
+    → All (All PointIn) (map corners routes)
 corners-in l h routes m = routes-in l h (runsOf l) (map corners routes) (corners-routes (hanan (runsOf l)) (runsOf l) routes m)
 
 -- ---- figures

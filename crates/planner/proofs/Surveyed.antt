@@ -13,7 +13,8 @@ use lib.ListN.{getD}
 use Rattle.network.specs.Lists.{sum, every, All}
 use Rattle.network.specs.Plane.{Run, gap, distance}
 use Rattle.network.specs.Grid.{edges, spans, inside}
-use Rattle.network.specs.Hanan.{insert, distinct, hanan}
+use Rattle.network.specs.Hanan.{hanan}
+use Rattle.network.specs.Distinct.{insert, distinct}
 use Rattle.network.specs.Route.{Route, unionLength, Least}
 use Rattle.network.specs.Graph.{overlap, meets, isCentre, centres}
 use Rattle.network.specs.Corners.{corners}
@@ -26,7 +27,7 @@ use Rattle.sharing.specs.Table.{all, unless, only, from, figure}
 use Rattle.sharing.specs.Star.{Best}
 use Rattle.sharing.proofs.Fill.{filled}
 use Rattle.sharing.proofs.Runs.{star-has-best}
-use Rattle.route.specs.Pits.{unique, pitsOf}
+use Rattle.network.specs.Pits.{unique, pitsOf}
 use Rattle.planner.specs.Verdict.{centresOf, isStar}
 use Rattle.planner.specs.Places.{firsts, seconds, starAt}
 use Rattle.planner.specs.Surveyed.{Figures, no-star, figures, Example, point, surveyed}

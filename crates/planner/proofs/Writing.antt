@@ -19,10 +19,11 @@ use Rattle.intersection.specs.Star.{starOf}
 use Rattle.job.specs.declared.Job.{Job}
 use Rattle.route.specs.declared.Route.{Route}
 use Rattle.route.specs.Route.{drawnOf, OnGrid, numbered, cornersOf, Tables}
-use Rattle.route.specs.Pits.{pitsOf}
+use Rattle.network.specs.Pits.{pitsOf}
 use Rattle.route.proofs.Corners.{on-numbered, pits-placed}
 use Rattle.plan.specs.declared.Head.{Head}
-use Rattle.plan.specs.Plan.{bookBytes, headOf, meetsOf, entriesAt}
+use Rattle.plan.specs.Plan.{bookBytes, headOf, meetsOf}
+use Rattle.plan.specs.Writers.{entriesAt}
 use Rattle.plan.proofs.Whole.{plan-written, plan-most}
 use Rattle.planner.specs.Verdict.{centresOf}
 use Rattle.planner.specs.Call.{runsOf, numbersOf, planOf}

@@ -8,14 +8,13 @@ use Rattle.network.specs.Lists.{All}
 use Rattle.network.specs.Plane.{Run}
 use Rattle.network.specs.Hanan.{hanan}
 use Rattle.network.specs.Route.{unionLength, Least}
-use Rattle.network.specs.Graph.{meets, below}
-use Rattle.network.proofs.Centres.{IsCentre}
+use Rattle.network.specs.Graph.{meets, below, IsCentre}
 use Rattle.job.specs.declared.Run.{Run as Read}
 use Rattle.job.specs.declared.Refusal.{Refusal}
 use Rattle.job.specs.Written.{WellFormed, bytesOf}
 use Rattle.plan.specs.declared.Head.{Head}
 use Rattle.plan.specs.Plan.{Entry, bookBytes}
-use Rattle.plan.proofs.Determined.{InRange, HeadFits}
+use Rattle.plan.specs.Fits.{PointIn, HeadFits}
 use Rattle.planner.specs.Call.{runsOf, Said, gives, refuses, Plans}
 
 -- the bytes are those of a well-formed job
@@ -47,5 +46,5 @@ pub record Demands (job : List ℕ) (words : ℕ) (out : List ℕ) (s : Said) (o
   -- a plan is answered exactly if enough is lent, and the job is well formed and a star
   pub demand-2 : ((n : ℕ) × (s ≡ gives n)) ↔ Admitted job words (length out)
   -- however the first bytes, as many as are answered, are read as a head and entries, these are a least plan of the job
-  pub demand-3 : (n : ℕ) → s ≡ gives n → (j : JobIn job) (head : Head) (es : List Entry) → HeadFits head → All (All InRange) (map (λ e. e .corners) es)
+  pub demand-3 : (n : ℕ) → s ≡ gives n → (j : JobIn job) (head : Head) (es : List Entry) → HeadFits head → All (All PointIn) (map (λ e. e .corners) es)
       → bookBytes head es ≡ take n out′ → LeastPlan (j .runs) head es

@@ -6,7 +6,8 @@ use Prim.Native.Nat.{ℕ, _+_, _*_, _≤_, _<_}
 use lib.ListN.{length, getD, take}
 use Rattle.network.specs.Lists.{sum, All}
 use Rattle.network.specs.Plane.{Run, distance}
-use Rattle.network.specs.Hanan.{distinct, hanan}
+use Rattle.network.specs.Hanan.{hanan}
+use Rattle.network.specs.Distinct.{distinct}
 use Rattle.network.specs.Route.{Route}
 use Rattle.network.specs.Corners.{corners}
 use Rattle.network.specs.Graph.{meets, below, isCentre}
@@ -17,8 +18,8 @@ use Rattle.sharing.specs.View.{lines}
 use Rattle.sharing.specs.Star.{Best}
 use Rattle.table.specs.declared.side.Side.{Side}
 use Rattle.table.specs.Side.{Sided}
+use Rattle.table.specs.OnLines.{sideAt, OnLines}
 use Rattle.table.specs.Rule.{Beyond}
-use Rattle.table.proofs.Star.{sideAt, Surveyed}
 use Rattle.route.specs.Route.{drawnOf, OnGrid}
 use Rattle.planner.specs.declared.star.Survey.{Survey}
 use Rattle.planner.specs.declared.star.Layout.{Layout}
@@ -60,7 +61,7 @@ pub record Surveys (first second : List ℕ) (n : ℕ) (s : Survey) : Type 0 whe
 -- the sides have the runs of a star with the centre c, whose leaves are a set
 pub record StarSurveyed (runs : List Run) (xs ys : Side) (n c leaves : ℕ) : Type 0 where
   pub count : length runs ≡ n
-  pub surveyed : Surveyed (hanan runs) runs xs ys c leaves
+  pub surveyed : OnLines (hanan runs) runs xs ys c leaves
   pub few-lines : (d : Dir) → length (lines (hanan runs) d) ≤ n + n
   pub short : (d : Dir) (i : ℕ) → getD (sideAt xs ys d .len) i 0 ≤ 2000000
   pub listed : c < n

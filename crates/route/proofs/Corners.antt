@@ -20,7 +20,7 @@ use Rattle.network.proofs.Drawn.{from-steps}
 use Rattle.route.specs.declared.Route.{Route}
 use Rattle.route.specs.Route.{below-at, length-below, stepsOf, columnsOf, rowsOf, drawnOf, OnGrid, numbered, cornersOf, placed, Tables}
 use Rattle.route.specs.Walker.{standing}
-use Rattle.route.specs.Pits.{pitsOf}
+use Rattle.network.specs.Pits.{pitsOf}
 use Rattle.route.proofs.Lists.{all-map, map-cong, flatten-map, flatten-all}
 use Rattle.route.proofs.Distinct.{same-self, unique-map}
 use Rattle.route.proofs.Lanes.{fits-more, columns-extent, rows-extent}

@@ -12,7 +12,7 @@ use Rattle.network.specs.Lists.{All}
 use Rattle.network.specs.Corners.{samePoint}
 use Rattle.network.proofs.Tests.{same-test}
 use Rattle.network.proofs.Corners.{point-true}
-use Rattle.route.specs.Pits.{among, unique}
+use Rattle.network.specs.Pits.{among, unique}
 
 -- ---- the same point
 

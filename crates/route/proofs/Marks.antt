@@ -12,7 +12,8 @@ use lib.Dec.{eqb}
 use Rattle.network.specs.Plane.{Point}
 use Rattle.network.specs.Corners.{samePoint}
 use Rattle.network.proofs.Lanes.{point-path}
-use Rattle.route.specs.Pits.{among, unique, markOf, Marked, Counted}
+use Rattle.route.specs.Marked.{markOf, Marked, Counted}
+use Rattle.network.specs.Pits.{among, unique}
 use Rattle.route.proofs.Lists.{map-take, flatten-last}
 use Rattle.network.proofs.Corners.{point-true}
 use Rattle.route.proofs.Distinct.{same-self, among-last, unique-last}

@@ -1,4 +1,4 @@
 -- Routes as steps on the grid's lines, their corners, and pits.
 pub mod Route
 pub mod Walker
-pub mod Pits
+pub mod Marked

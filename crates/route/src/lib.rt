@@ -7,7 +7,8 @@ ghost use lib.ListN.{length, getD, take};
 ghost use Rattle.network.specs.Lists.{All};
 ghost use Rattle.route.specs.Route.{dirOf, numbered, OnGrid, cornersOf};
 ghost use Rattle.route.specs.Walker.{headingOf, following, ahead, standing, stepped, Room, Free};
-ghost use Rattle.route.specs.Pits.{crossing, Counted, pitsOf};
+ghost use Rattle.route.specs.Marked.{crossing, Counted};
+ghost use Rattle.network.specs.Pits.{pitsOf};
 
 // Where a column and a row cross.
 pub struct Vertex {

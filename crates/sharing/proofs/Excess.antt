@@ -16,14 +16,13 @@ use Rattle.network.specs.Lists.{sum, count}
 use Rattle.network.specs.Plane.{Run}
 use Rattle.network.specs.Grid.{Grid, Edge, len}
 use Rattle.network.specs.Route.{Route, Routes, on}
-use Rattle.network.specs.Graph.{runAt, meets, below}
+use Rattle.network.specs.Graph.{runAt, meets, below, IsCentre}
 use Rattle.network.specs.Excess.{excess}
 use Rattle.network.proofs.Tests.{and-split}
 use Rattle.network.proofs.Sums.{sum-cong, sum-add, sumTo, sumTo-one}
 use Rattle.network.proofs.Edges.{OfGrid, edges-cong}
 use Rattle.network.proofs.Along.{on-route-inside}
 use Rattle.network.proofs.Meeting.{edge-overlap, meets-true, true-meets, meets-self}
-use Rattle.network.proofs.Centres.{IsCentre}
 use Rattle.network.proofs.Counting.{count-times}
 use Rattle.network.proofs.Leaves.{below-member, member-below}
 use Rattle.sharing.specs.Star.{routeAt, common}

@@ -20,7 +20,7 @@ use Rattle.network.proofs.Hanan.{placed-frame}
 use Rattle.sharing.specs.Box.{Box}
 use Rattle.sharing.specs.Table.{figure}
 use Rattle.sharing.specs.Trace.{trace}
-use Rattle.sharing.specs.View.{lines, View, facing, index, numbered, boxAt, coordinate, Shows}
+use Rattle.sharing.specs.View.{lines, View, facing, index, numbered, boxAt, coordinate, Shows, coordinateOf, Indexed, viewOf, boxOf}
 use Rattle.sharing.specs.Star.{starOf, Centred, stepsOf, Best}
 use Rattle.sharing.proofs.Fill.{filled, filled-exact}
 use Rattle.sharing.proofs.Trace.{traced}
@@ -29,21 +29,13 @@ use Rattle.sharing.proofs.Theorem.{star-centred, star-best}
 
 -- ---- boxes from the indexes of lines
 
-abbrev coordinateOf : Point → Dir → ℕ
-coordinateOf p hor = p .x
-coordinateOf p ver = p .y
-
--- the point is where the lines with the indexes i cross
-pub record Indexed (g : Grid) (p : Point) (i : Dir → ℕ) : Type 0 where
-  pub fits : (d : Dir) → i d < length (lines g d)
-  pub at-line : (d : Dir) → getD (lines g d) (i d) 0 ≡ coordinateOf p d
-
 -- counting back and back again
 index-twice : (f : Bool) (n i : ℕ) → i < n → index f n (index f n i) ≡ i
 index-twice false n i h = refl
 index-twice true n i h = omega arith
 
 module _ (v : View) where
+  -- the line with a point's index has the point's coordinate
   point-is : (p : Point) (i : Dir → ℕ) → Indexed (v .grid) p i → (d : Dir) → coordinate v d (numbered v d (i d)) ≡ coordinateOf p d
   point-is p i x d =
       ap (λ j. getD (lines (v .grid) d) j 0) (index-twice (v .flip d) (length (lines (v .grid) d)) (i d) (x .fits d)) ∙ x .at-line d
@@ -78,11 +70,13 @@ tabulate : {A : Type 0} → ℕ → (ℕ → A) → List A
 tabulate zero f = []
 tabulate (suc n) f = f 0 ∷ tabulate n (λ k. f (suc k))
 
+-- there are n of them
 tabulate-length : {A : Type 0} (n : ℕ) (f : ℕ → A) → length (tabulate n f) ≡ n
 unfolding tabulate
 tabulate-length zero f = refl
 tabulate-length (suc n) f = ap suc (tabulate-length n (λ k. f (suc k)))
 
+-- and f k is the one with the index k
 tabulate-at : {A : Type 0} (n : ℕ) (f : ℕ → A) (z : A) (k : ℕ) → k < n → getD (tabulate n f) k z ≡ f k
 unfolding tabulate
 tabulate-at zero f z k h = absurd (omega arith)
@@ -101,29 +95,30 @@ module _ (g : Grid) (runs : List Run) (firsts seconds : ℕ → Dir → ℕ)
       (X, Y, λ i. f)
   lanes k (no n) = (forth 0 0, forth 0 0, λ i. absurd (n i))
 
-  -- the view of run c, and the boxes in it
-  abbrev pub viewAt : ℕ → View
-  viewAt c = facing g (firsts c) (seconds c)
+  -- the view of run c
+  abbrev view : ℕ → View
+  view = viewOf g firsts seconds
 
-  abbrev pub boxIn : ℕ → ℕ → Box
-  boxIn c k = boxAt (viewAt c) (firsts k) (seconds k)
+  -- the boxes in it
+  abbrev box : ℕ → ℕ → Box
+  box = boxOf g firsts seconds
 
   -- the centre of a star, in its own view
-  pub star-seen : (c : ℕ) → c < length runs → isCentre (meets g runs) (below (length runs)) c ≡ true → Centred (viewAt c) runs (boxIn c) c
+  pub star-seen : (c : ℕ) → c < length runs → isCentre (meets g runs) (below (length runs)) c ≡ true → Centred (view c) runs (box c) c
   star-seen c h star =
-      star-centred (viewAt c) runs (boxIn c) c star h (λ k l. indexed-shows (viewAt c) (runAt runs k) (firsts k) (seconds k) (first-at k l) (second-at k l))
+      star-centred (view c) runs (box c) c star h (λ k l. indexed-shows (view c) (runAt runs k) (firsts k) (seconds k) (first-at k l) (second-at k l))
       (facing-rises g (firsts c) (seconds c) (first-at c h .fits) (second-at c h .fits))
 
   -- the table by recursion and its trace give best routes
   pub star-has-best : (c : ℕ) → c < length runs → isCentre (meets g runs) (below (length runs)) c ≡ true
-      → (routes : List Route) × Best g runs routes (figure (starOf (viewAt c) runs (boxIn c) c) (filled (starOf (viewAt c) runs (boxIn c) c)))
+      → (routes : List Route) × Best g runs routes (figure (starOf (view c) runs (box c) c) (filled (starOf (view c) runs (box c) c)))
   star-has-best c h star =
-      let I = starOf (viewAt c) runs (boxIn c) c in
+      let I = starOf (view c) runs (box c) c in
       let X : ℕ → Lane = λ k. lanes k (decLt k (length runs)) .0 in
       let Y : ℕ → Lane = λ k. lanes k (decLt k (length runs)) .1 in
       let route : ℕ → Route = λ k. drawn g (X k) (Y k) (stepsOf I c (trace I (filled I)) k) in
       let frames : (k : ℕ) → k < length runs → Frame g (runAt runs k) (X k) (Y k) = λ k l. lanes k (decLt k (length runs)) .2 l in (
         tabulate (length runs) route,
-        star-best (viewAt c) runs (boxIn c) c (star-seen c h star) (filled I) (trace I (filled I)) (traced I (filled I) (filled-exact I)) X Y frames
+        star-best (view c) runs (box c) c (star-seen c h star) (filled I) (trace I (filled I)) (traced I (filled I) (filled-exact I)) X Y frames
             (tabulate (length runs) route) star (filled-exact I) (tabulate-length (length runs) route) (λ k l. tabulate-at (length runs) route [] k l),
       )

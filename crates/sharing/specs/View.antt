@@ -69,3 +69,25 @@ pub record Shows (v : View) (r : Run) (b : Box) : Type 0 where
   pub first-fits : (d : Dir) → b .first d < length (lines (v .grid) d)
   pub second-fits : (d : Dir) → b .second d < length (lines (v .grid) d)
   pub same-run : shown v b ≡ r
+
+-- ---- runs by the indexes of their points' lines
+
+-- a point's coordinate along d
+abbrev pub coordinateOf : Point → Dir → ℕ
+coordinateOf p hor = p .x
+coordinateOf p ver = p .y
+
+-- the point is where the lines with the indexes i cross
+pub record Indexed (g : Grid) (p : Point) (i : Dir → ℕ) : Type 0 where
+  pub fits : (d : Dir) → i d < length (lines g d)
+  pub at-line : (d : Dir) → getD (lines g d) (i d) 0 ≡ coordinateOf p d
+
+-- run k goes from the lines `firsts k` to the lines `seconds k`
+module _ (g : Grid) (firsts seconds : ℕ → Dir → ℕ) where
+  -- the view of run c
+  abbrev pub viewOf : ℕ → View
+  viewOf c = facing g (firsts c) (seconds c)
+
+  -- the box of run k in it
+  abbrev pub boxOf : ℕ → ℕ → Box
+  boxOf c k = boxAt (viewOf c) (firsts k) (seconds k)

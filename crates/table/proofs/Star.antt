@@ -21,54 +21,23 @@ use Rattle.network.proofs.Tests.{and-split, outcome}
 use Rattle.sharing.specs.Box.{Box, lo, hi, passes, liesIn, falls}
 use Rattle.sharing.specs.Instance.{Instance, cross, ownerIf, owner}
 use Rattle.sharing.specs.Table.{arrival}
-use Rattle.sharing.specs.View.{lines, View, facing, numbered, boxAt}
+use Rattle.sharing.specs.View.{lines, View, numbered}
 use Rattle.sharing.specs.Star.{starOf, Centred}
 use Rattle.sharing.proofs.Owners.{Lies, EdgeIn, lies-in, in-lies}
 use Rattle.sharing.proofs.Centre.{meets-listed, lies-leaf, separate, leaf-owner, no-owner}
-use Rattle.sharing.proofs.Runs.{Indexed}
 use Rattle.intersection.specs.Sets.{has}
 use Rattle.intersection.proofs.Digits.{has-and, has-power, has-pack, none-has, same-set, trailing-below, trailing-at}
 use Rattle.table.specs.declared.side.Side.{Side}
 use Rattle.table.specs.declared.frame.Group.{Group}
-use Rattle.table.specs.Side.{firstOf, secondOf, Placed, covers, leafOn, leavesOn}
+use Rattle.table.specs.Side.{Placed, covers, leafOn, leavesOn}
 use Rattle.table.specs.Frame.{lineOf, lowerOf, frameLine, ahead, goesDown, crosses, Grouped}
+use Rattle.table.specs.OnLines.{sideAt, firstAt, secondAt, OnLines, viewBy, boxBy}
 use Rattle.table.specs.Rule.{many, lineAt, ownSet, Fit}
 use Rattle.table.proofs.Boxes.{leaves-lt}
 use Rattle.table.proofs.Lines.{gap-lt, lower-lt}
 use Rattle.table.proofs.Named.{Names, nobody, alike, unlike}
 use Rattle.table.proofs.Axis.{axis-size, axis-lower, axis-covers, axis-ahead}
 use Rattle.table.proofs.Drawn.{Drawn}
-
--- the side of a direction
-abbrev pub sideAt : Side → Side → Dir → Side
-sideAt xs ys hor = xs
-sideAt xs ys ver = ys
-
--- the indexes of the lines of run k's first point
-abbrev pub firsts : Side → Side → ℕ → Dir → ℕ
-firsts xs ys k d = firstOf (sideAt xs ys d) k
-
--- and of its second point
-abbrev pub seconds : Side → Side → ℕ → Dir → ℕ
-seconds xs ys k d = secondOf (sideAt xs ys d) k
-
--- the sides hold the runs' lines on a grid, and the leaves are the runs that the centre c meets
-pub record Surveyed (grid : Grid) (runs : List Run) (xs ys : Side) (c leaves : ℕ) : Type 0 where
-  pub few : length runs ≤ 32
-  pub first-at : (k : ℕ) → k < length runs → Indexed grid (runAt runs k .first) (firsts xs ys k)
-  pub second-at : (k : ℕ) → k < length runs → Indexed grid (runAt runs k .second) (seconds xs ys k)
-  pub lengths : (d : Dir) (i : ℕ) → suc i < length (lines grid d) → getD (sideAt xs ys d .len) i 0 ≡ getD (lines grid d) (suc i) 0 - getD (lines grid d) i 0
-  pub is-leaf : (k : ℕ) → k < length runs → has leaves k ≡ meets grid runs c k
-
--- what the sides give
-module _ (grid : Grid) (xs ys : Side) (c : ℕ) where
-  -- the centre's view
-  abbrev pub viewOf : View
-  viewOf = facing grid (firsts xs ys c) (seconds xs ys c)
-
-  -- the box of run k in it
-  abbrev pub boxOf : ℕ → Box
-  boxOf k = boxAt viewOf (firsts xs ys k) (seconds xs ys k)
 
 -- the set at a line of the frame
 frame-on : (on len : ℕ → ℕ) (p q i : ℕ) → frameLine on len p q i .on ≡ on (lineOf p q i)
@@ -98,15 +67,15 @@ all-true true a b d e =
 all-true false a b d e = absurd (true≢false (sym e))
 
 module _ (grid : Grid) (runs : List Run) (xs ys : Side) (c leaves : ℕ) (g : Group)
-    (S : Surveyed grid runs xs ys c leaves) (G : Grouped xs ys (length runs) c leaves g)
-    (C : Centred (viewOf grid xs ys c) runs (boxOf grid xs ys c) c) where
+    (S : OnLines grid runs xs ys c leaves) (G : Grouped xs ys (length runs) c leaves g)
+    (C : Centred (viewBy grid xs ys c) runs (boxBy grid xs ys c) c) where
   -- the centre's view
   abbrev v : View
-  v = viewOf grid xs ys c
+  v = viewBy grid xs ys c
 
   -- the boxes in it
   abbrev box : ℕ → Box
-  box = boxOf grid xs ys c
+  box = boxBy grid xs ys c
 
   -- the star
   abbrev I : Instance
@@ -115,50 +84,50 @@ module _ (grid : Grid) (runs : List Run) (xs ys : Side) (c leaves : ℕ) (g : Gr
   -- ---- one axis
 
   -- a run's first point is on a line of the grid
-  first-lt : (d : Dir) (k : ℕ) → k < length runs → firsts xs ys k d < length (lines grid d)
+  first-lt : (d : Dir) (k : ℕ) → k < length runs → firstAt xs ys k d < length (lines grid d)
   first-lt d k h = S .first-at k h .fits d
 
   -- and its second point
-  second-lt : (d : Dir) (k : ℕ) → k < length runs → seconds xs ys k d < length (lines grid d)
+  second-lt : (d : Dir) (k : ℕ) → k < length runs → secondAt xs ys k d < length (lines grid d)
   second-lt d k h = S .second-at k h .fits d
 
   -- the frame has the star's size
-  size-is : (d : Dir) → I .size d ≡ gap (firsts xs ys c d) (seconds xs ys c d)
-  size-is d = axis-size (length (lines grid d)) (firsts xs ys c d) (seconds xs ys c d) (first-lt d c (C .listed)) (second-lt d c (C .listed))
+  size-is : (d : Dir) → I .size d ≡ gap (firstAt xs ys c d) (secondAt xs ys c d)
+  size-is d = axis-size (length (lines grid d)) (firstAt xs ys c d) (secondAt xs ys c d) (first-lt d c (C .listed)) (second-lt d c (C .listed))
 
   -- run k's box has line i of the frame
   covers-is : (d : Dir) (k i : ℕ) → k < length runs → i ≤ I .size d
-      → covers (firsts xs ys k d) (seconds xs ys k d) (lineOf (firsts xs ys c d) (seconds xs ys c d) i) ≡ passes (box k) d (I .start d + i)
+      → covers (firstAt xs ys k d) (secondAt xs ys k d) (lineOf (firstAt xs ys c d) (secondAt xs ys c d) i) ≡ passes (box k) d (I .start d + i)
   unfolding passes lo hi
   covers-is d k i h l =
-      axis-covers (length (lines grid d)) (firsts xs ys c d) (seconds xs ys c d) (first-lt d c (C .listed)) (second-lt d c (C .listed))
-      i (firsts xs ys k d) (seconds xs ys k d) (omega (arith, size-is d)) (first-lt d k h) (second-lt d k h)
+      axis-covers (length (lines grid d)) (firstAt xs ys c d) (secondAt xs ys c d) (first-lt d c (C .listed)) (second-lt d c (C .listed))
+      i (firstAt xs ys k d) (secondAt xs ys k d) (omega (arith, size-is d)) (first-lt d k h) (second-lt d k h)
 
   -- the lines of the group
   frame-lines : (d : Dir) (i : ℕ) → i ≤ I .size d
-      → lineAt g d i ≡ frameLine (leavesOn (sideAt xs ys d) (length runs) leaves) (λ j. getD (sideAt xs ys d .len) j 0) (firsts xs ys c d) (seconds xs ys c d) i
+      → lineAt g d i ≡ frameLine (leavesOn (sideAt xs ys d) (length runs) leaves) (λ j. getD (sideAt xs ys d .len) j 0) (firstAt xs ys c d) (secondAt xs ys c d) i
   frame-lines hor i h = G .columns i (omega (arith, size-is hor))
   frame-lines ver i h = G .rows i (omega (arith, size-is ver))
 
   -- the leaves on a line
   on-is : (d : Dir) (i k : ℕ) → k < length runs → i ≤ I .size d
-      → has (leavesOn (sideAt xs ys d) (length runs) leaves (lineOf (firsts xs ys c d) (seconds xs ys c d) i)) k
+      → has (leavesOn (sideAt xs ys d) (length runs) leaves (lineOf (firstAt xs ys c d) (secondAt xs ys c d) i)) k
       ≡ meets grid runs c k && passes (box k) d (I .start d + i)
   unfolding leavesOn leafOn
   on-is d i k h l =
-      has-pack (leafOn (sideAt xs ys d) leaves (lineOf (firsts xs ys c d) (seconds xs ys c d) i)) (length runs) k h
+      has-pack (leafOn (sideAt xs ys d) leaves (lineOf (firstAt xs ys c d) (secondAt xs ys c d) i)) (length runs) k h
       ∙ ap₂ _&&_ (S .is-leaf k h) (covers-is d k i h l)
 
   -- ---- the set of an edge
 
   -- the leaves on line i of the frame
   onAt : Dir → ℕ → ℕ
-  onAt d i = leavesOn (sideAt xs ys d) (length runs) leaves (lineOf (firsts xs ys c d) (seconds xs ys c d) i)
+  onAt d i = leavesOn (sideAt xs ys d) (length runs) leaves (lineOf (firstAt xs ys c d) (secondAt xs ys c d) i)
 
   -- the group has them
   line-on : (d : Dir) (i : ℕ) → i ≤ I .size d → lineAt g d i .on ≡ onAt d i
   unfolding onAt
-  line-on d i h = ap (λ l. l .on) (frame-lines d i h) ∙ frame-on _ _ (firsts xs ys c d) (seconds xs ys c d) i
+  line-on d i h = ap (λ l. l .on) (frame-lines d i h) ∙ frame-on _ _ (firstAt xs ys c d) (secondAt xs ys c d) i
 
   -- and those on the line before as well
   line-into : (d : Dir) (i : ℕ) → suc i ≤ I .size d → lineAt g d (suc i) .into ≡ bitAnd (onAt d (suc i)) (onAt d i)
@@ -221,10 +190,10 @@ module _ (grid : Grid) (runs : List Run) (xs ys : Side) (c leaves : ℕ) (g : Gr
       → ahead (v .flip ver) a b ≡ ltb (numbered v ver a) (numbered v ver b) = axis-ahead (v .flip ver) (length (lines grid ver)) in
       ap (λ m. has m k) (G .crossing) ∙ has-pack (crosses xs ys c) (length runs) k h
       ∙ rw (
-        x (firsts xs ys k hor) (seconds xs ys k hor) (first-lt hor k h) (second-lt hor k h),
-        x (seconds xs ys k hor) (firsts xs ys k hor) (second-lt hor k h) (first-lt hor k h),
-        y (firsts xs ys k ver) (seconds xs ys k ver) (first-lt ver k h) (second-lt ver k h),
-        y (seconds xs ys k ver) (firsts xs ys k ver) (second-lt ver k h) (first-lt ver k h),
+        x (firstAt xs ys k hor) (secondAt xs ys k hor) (first-lt hor k h) (second-lt hor k h),
+        x (secondAt xs ys k hor) (firstAt xs ys k hor) (second-lt hor k h) (first-lt hor k h),
+        y (firstAt xs ys k ver) (secondAt xs ys k ver) (first-lt ver k h) (second-lt ver k h),
+        y (secondAt xs ys k ver) (firstAt xs ys k ver) (second-lt ver k h) (first-lt ver k h),
       )
 
   -- a set with a member is that member alone
@@ -271,9 +240,9 @@ module _ (grid : Grid) (runs : List Run) (xs ys : Side) (c leaves : ℕ) (g : Gr
       let n = length (lines grid d) in
       let p = first-lt d c (C .listed) in
       let q = second-lt d c (C .listed) in
-      let l = axis-lower n (firsts xs ys c d) (seconds xs ys c d) p q s (omega (arith, size-is d)) in
+      let l = axis-lower n (firstAt xs ys c d) (secondAt xs ys c d) p q s (omega (arith, size-is d)) in
       ap (λ l. l .len) (frame-lines d (suc s) h)
-      ∙ S .lengths d (lowerOf (firsts xs ys c d) (seconds xs ys c d) s) (lower-lt n (firsts xs ys c d) (seconds xs ys c d) s p q (omega (arith, size-is d)))
+      ∙ S .lengths d (lowerOf (firstAt xs ys c d) (secondAt xs ys c d) s) (lower-lt n (firstAt xs ys c d) (secondAt xs ys c d) s p q (omega (arith, size-is d)))
       ∙ ap (λ i. getD (lines grid d) (suc i) 0 - getD (lines grid d) i 0) l
 
   -- THEOREM: the group draws the star
@@ -288,14 +257,14 @@ module _ (grid : Grid) (runs : List Run) (xs ys : Side) (c leaves : ℕ) (g : Gr
     where
       owners : (d : Dir) (s t : ℕ) → s ≤ I .size d → t ≤ I .size (other d) → Names (g .cross) (ownSet g d s t) (arrival I d s t)
       owners d zero t h j =
-          let e = ap (λ l. l .into) (frame-lines d 0 h) ∙ first-into _ _ (firsts xs ys c d) (seconds xs ys c d) in
+          let e = ap (λ l. l .into) (frame-lines d 0 h) ∙ first-into _ _ (firstAt xs ys c d) (secondAt xs ys c d) in
           rw (e, and-zero-r (lineAt g (other d) t .on)) nobody
       owners d (suc s) t h j = own-names d s t h j
 
 -- ---- the sizes suit
 
 -- how many lines a direction has
-many-of : (g : Group) (xs ys : Side) (n c leaves : ℕ) → Grouped xs ys n c leaves g → (d : Dir) → many g d ≡ suc (gap (firsts xs ys c d) (seconds xs ys c d))
+many-of : (g : Group) (xs ys : Side) (n c leaves : ℕ) → Grouped xs ys n c leaves g → (d : Dir) → many g d ≡ suc (gap (firstAt xs ys c d) (secondAt xs ys c d))
 many-of g xs ys n c leaves G hor = G .wide
 many-of g xs ys n c leaves G ver = G .high
 
@@ -309,18 +278,18 @@ line-short on len p q (suc i) h = h (lowerOf p q i)
 pub group-fit : (g : Group) (xs ys : Side) (n c leaves : ℕ) (words : List ℕ) → Grouped xs ys n c leaves g → Placed xs n → Placed ys n → c < n
     → ((d : Dir) (i : ℕ) → getD (sideAt xs ys d .len) i 0 ≤ 2000000) → g .h * g .w * 4 ≤ length words → Fit g words
 group-fit g xs ys n c leaves words G X Y h short room =
-    let x = gap-lt 64 (firsts xs ys c hor) (seconds xs ys c hor) (X c h .0) (X c h .1) in
-    let y = gap-lt 64 (firsts xs ys c ver) (seconds xs ys c ver) (Y c h .0) (Y c h .1) in
+    let x = gap-lt 64 (firstAt xs ys c hor) (secondAt xs ys c hor) (X c h .0) (X c h .1) in
+    let y = gap-lt 64 (firstAt xs ys c ver) (secondAt xs ys c ver) (Y c h .0) (Y c h .1) in
     record {
       some-columns = omega (arith, G .wide);
       columns = omega (arith, G .wide);
       some-rows = omega (arith, G .high);
       rows = omega (arith, G .high);
       room = room;
-      short = λ d s l. rw (lines-at d s (omega (arith, many-of g xs ys n c leaves G d))) (line-short _ _ (firsts xs ys c d) (seconds xs ys c d) s (short d));
+      short = λ d s l. rw (lines-at d s (omega (arith, many-of g xs ys n c leaves G d))) (line-short _ _ (firstAt xs ys c d) (secondAt xs ys c d) s (short d));
     }
   where
-    lines-at : (d : Dir) (i : ℕ) → i ≤ gap (firsts xs ys c d) (seconds xs ys c d)
-        → lineAt g d i ≡ frameLine (leavesOn (sideAt xs ys d) n leaves) (λ j. getD (sideAt xs ys d .len) j 0) (firsts xs ys c d) (seconds xs ys c d) i
+    lines-at : (d : Dir) (i : ℕ) → i ≤ gap (firstAt xs ys c d) (secondAt xs ys c d)
+        → lineAt g d i ≡ frameLine (leavesOn (sideAt xs ys d) n leaves) (λ j. getD (sideAt xs ys d .len) j 0) (firstAt xs ys c d) (secondAt xs ys c d) i
     lines-at hor i b = G .columns i b
     lines-at ver i b = G .rows i b

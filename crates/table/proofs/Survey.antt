@@ -9,7 +9,8 @@ use native.Mathlib.Decide.{decLt}
 use lib.ListN.{length, getD}
 use Rattle.network.specs.Grid.{Rising, Grid}
 use Rattle.network.specs.Route.{Listed}
-use Rattle.network.specs.Hanan.{distinct, hanan}
+use Rattle.network.specs.Hanan.{hanan}
+use Rattle.network.specs.Distinct.{distinct}
 use Rattle.network.specs.Plane.{Run}
 use Rattle.network.specs.Graph.{runAt, meets, isCentre, below}
 use Rattle.network.specs.Boxes.{Placed}
@@ -33,11 +34,12 @@ use Rattle.table.specs.declared.side.Side.{Side}
 use Rattle.table.specs.declared.frame.Group.{Group}
 use Rattle.table.specs.Side.{Sided, firstOf, secondOf}
 use Rattle.table.specs.Side
+use Rattle.table.specs.OnLines.{sideAt, firstAt, secondAt, OnLines, viewBy, boxBy}
 use Rattle.table.specs.Frame.{Grouped}
 use Rattle.table.specs.Rule.{tableOf, Ruled, figureOf}
 use Rattle.table.specs.Walk.{walked}
 use Rattle.table.proofs.Drawn.{ruled-exact, figure-drawn, walked-trace}
-use Rattle.table.proofs.Star.{sideAt, firsts, seconds, Surveyed, viewOf, boxOf, group-drawn}
+use Rattle.table.proofs.Star.{group-drawn}
 
 -- ---- one axis
 
@@ -133,8 +135,8 @@ module _ (x1 y1 x2 y2 : List ℕ) (n : ℕ) (few : n ≤ 32) (a b : Axis) (ea : 
       length-le b (grid .rows) y1 y2 n ys (axis-rows x1 y1 x2 y2 n b eb) (grid .rows-rise) sy m (rw (rows-are x1 y1 x2 y2 n) (length-within y1 y2 n m hy))
 
   -- the sides hold the job
-  pub surveyed : (c leaves : ℕ) → ((k : ℕ) → k < n → has leaves k ≡ meets grid runs c k) → Surveyed grid runs xs ys c leaves
-  surveyed c leaves h =
+  pub on-lines : (c leaves : ℕ) → ((k : ℕ) → k < n → has leaves k ≡ meets grid runs c k) → OnLines grid runs xs ys c leaves
+  on-lines c leaves h =
       record {
         few = rw size few;
         first-at = λ k l. let m : k < n = rw size at l in rw (run-at x1 y1 x2 y2 n k m)
@@ -151,26 +153,26 @@ module _ (x1 y1 x2 y2 : List ℕ) (n : ℕ) (few : n ≤ 32) (a b : Axis) (ea : 
 -- ---- the star
 
 -- the centre of a job that is one star is centred in the view that the sides give
-pub surveyed-centred : (grid : Grid) (runs : List Run) (xs ys : Side) (c leaves : ℕ) → Surveyed grid runs xs ys c leaves → c < length runs
-    → isCentre (meets grid runs) (below (length runs)) c ≡ true → Centred (viewOf grid xs ys c) runs (boxOf grid xs ys c) c
-surveyed-centred grid runs xs ys c leaves S h star =
-    star-centred (viewOf grid xs ys c) runs (boxOf grid xs ys c) c star h
-    (λ k l. indexed-shows (viewOf grid xs ys c) (runAt runs k) (firsts xs ys k) (seconds xs ys k) (S .first-at k l) (S .second-at k l))
-    (facing-rises grid (firsts xs ys c) (seconds xs ys c) (λ d. S .first-at c h .fits d) (λ d. S .second-at c h .fits d))
+pub lines-centred : (grid : Grid) (runs : List Run) (xs ys : Side) (c leaves : ℕ) → OnLines grid runs xs ys c leaves → c < length runs
+    → isCentre (meets grid runs) (below (length runs)) c ≡ true → Centred (viewBy grid xs ys c) runs (boxBy grid xs ys c) c
+lines-centred grid runs xs ys c leaves S h star =
+    star-centred (viewBy grid xs ys c) runs (boxBy grid xs ys c) c star h
+    (λ k l. indexed-shows (viewBy grid xs ys c) (runAt runs k) (firstAt xs ys k) (secondAt xs ys k) (S .first-at k l) (S .second-at k l))
+    (facing-rises grid (firstAt xs ys c) (secondAt xs ys c) (λ d. S .first-at c h .fits d) (λ d. S .second-at c h .fits d))
 
-module _ (grid : Grid) (runs : List Run) (xs ys : Side) (c leaves : ℕ) (S : Surveyed grid runs xs ys c leaves)
-    (C : Centred (viewOf grid xs ys c) runs (boxOf grid xs ys c) c)
+module _ (grid : Grid) (runs : List Run) (xs ys : Side) (c leaves : ℕ) (S : OnLines grid runs xs ys c leaves)
+    (C : Centred (viewBy grid xs ys c) runs (boxBy grid xs ys c) c)
     (g : Group) (G : Grouped xs ys (length runs) c leaves g) (words : List ℕ) (R : Ruled g words) where
   -- THEOREM: the table that `fill` leaves is exact for the star
-  pub star-exact : Exact (starOf (viewOf grid xs ys c) runs (boxOf grid xs ys c) c) (tableOf (g .w) words)
+  pub star-exact : Exact (starOf (viewBy grid xs ys c) runs (boxBy grid xs ys c) c) (tableOf (g .w) words)
   star-exact = ruled-exact g _ (group-drawn grid runs xs ys c leaves g S G C) words R
 
   -- what `figure_of` answers is the star's figure
-  pub star-figure : figureOf g words ≡ figure (starOf (viewOf grid xs ys c) runs (boxOf grid xs ys c) c) (tableOf (g .w) words)
+  pub star-figure : figureOf g words ≡ figure (starOf (viewBy grid xs ys c) runs (boxBy grid xs ys c) c) (tableOf (g .w) words)
   star-figure = figure-drawn g _ (group-drawn grid runs xs ys c leaves g S G C) words
 
   -- THEOREM: the moves that `trace_of` answers are traced in it
-  pub star-traced : Traced (starOf (viewOf grid xs ys c) runs (boxOf grid xs ys c) c) (tableOf (g .w) words) (walked g words)
+  pub star-traced : Traced (starOf (viewBy grid xs ys c) runs (boxBy grid xs ys c) c) (tableOf (g .w) words) (walked g words)
   star-traced =
       rw (walked-trace g _ (group-drawn grid runs xs ys c leaves g S G C) words star-exact)
-      (traced (starOf (viewOf grid xs ys c) runs (boxOf grid xs ys c) c) (tableOf (g .w) words) star-exact)
+      (traced (starOf (viewBy grid xs ys c) runs (boxBy grid xs ys c) c) (tableOf (g .w) words) star-exact)

@@ -10,10 +10,10 @@ use Rattle.job.specs.declared.Refusal.{Refusal}
 use Rattle.job.specs.declared.Refusal.the-variants as refusal
 use Rattle.job.specs.Refusal.{refusalNumber, refusalPlace}
 use Rattle.plan.specs.declared.Head.{Head}
-use Rattle.plan.specs.Bytes.{Wrote}
+use Rattle.plan.specs.Writers.{Wrote}
 use Rattle.plan.specs.Plan.{Entry, totalCorners, bookBytes}
 use Rattle.plan.proofs.Length.{total-few}
-use Rattle.plan.proofs.Determined.{InRange, EntryFits, HeadFits}
+use Rattle.plan.specs.Fits.{PointIn, EntryFits, HeadFits}
 use Rattle.text.specs.Numerals.{ascii}
 use Rattle.text.specs.Text.{headText, pointText, entryText, planText, refusalText}
 use Rattle.text.specs.Listing.{listingOf}
@@ -37,17 +37,17 @@ head-length h f =
     ))
 
 -- a corner, with the space before it
-point-length : (p : Point) → InRange p → length (pointText p) ≤ 18
+point-length : (p : Point) → PointIn p → length (pointText p) ≤ 18
 point-length p f = simp length-append (omega (arith, decimetres-length (p .x) (f .x-in), decimetres-length (p .y) (f .y-in)))
 
 -- the corners of a route
-points-length : (ps : List Point) → All InRange ps → length (flatMap pointText ps) ≤ 18 * length ps
+points-length : (ps : List Point) → All PointIn ps → length (flatMap pointText ps) ≤ 18 * length ps
 unfolding flatMap
 points-length [] a = omega arith
 points-length (p ∷ ps) a = omega (arith, length-append (pointText p) (flatMap pointText ps), point-length p (a .0), points-length ps (a .1))
 
 -- the line of a run, without its line feed
-entry-length : (e : Entry) → EntryFits e → All InRange (e .corners) → length (e .corners) ≤ 127 → length (entryText e) ≤ 36 + 18 * length (e .corners)
+entry-length : (e : Entry) → EntryFits e → All PointIn (e .corners) → length (e .corners) ≤ 127 → length (entryText e) ≤ 36 + 18 * length (e .corners)
 entry-length e f a h =
     simp length-append (omega (
       arith,
@@ -58,7 +58,7 @@ entry-length e f a h =
     ))
 
 -- the lines of all runs
-entries-length : (es : List Entry) → All EntryFits es → All (λ e. All InRange (e .corners)) es → All (λ e. length (e .corners) ≤ 127) es
+entries-length : (es : List Entry) → All EntryFits es → All (λ e. All PointIn (e .corners)) es → All (λ e. length (e .corners) ≤ 127) es
     → length (flatMap (λ e. entryText e ++ ascii "\n") es) ≤ 37 * length es + 18 * totalCorners es
 unfolding flatMap
 entries-length [] f a h = omega arith
@@ -72,7 +72,7 @@ entries-length (e ∷ es) f a h =
       entries-length es (f .1) (a .1) (h .1),
     )
 
-module _ (head : Head) (es : List Entry) (g : HeadFits head) (f : All EntryFits es) (a : All (λ e. All InRange (e .corners)) es)
+module _ (head : Head) (es : List Entry) (g : HeadFits head) (f : All EntryFits es) (a : All (λ e. All PointIn (e .corners)) es)
     (h : All (λ e. length (e .corners) ≤ 127) es) where
   -- the text of a plan whose figures fit their fields, and whose corners lie in their range
   pub plan-length : length (planText head es) ≤ 85 + 37 * length es + 18 * totalCorners es

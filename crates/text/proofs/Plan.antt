@@ -13,7 +13,7 @@ use Rattle.job.proofs.Fields.{word2-bytes, word4-bytes}
 use Rattle.plan.specs.declared.Head.{Head}
 use Rattle.plan.specs.Records.{headRecord, routeRecord, cornerRecord, endRecord}
 use Rattle.plan.specs.Plan.{Entry, entryBytes, totalCorners, bookBytes}
-use Rattle.plan.proofs.Determined.{InRange, EntryFits, HeadFits}
+use Rattle.plan.specs.Fits.{PointIn, EntryFits, HeadFits}
 use Rattle.text.specs.Numerals.{ascii}
 use Rattle.text.specs.Text.{headText, routeText, cornerText, pointText, entryText, planText}
 use Rattle.text.specs.Records.{whole, decoded, recordOf}
@@ -81,7 +81,7 @@ unfolding recordText recordSize
 route-listing number meets corners rest f g h = listing-of (routeRecord number meets corners ++ rest) _ (route-read number meets corners rest f g h)
 
 -- a corner, in decimetres
-corner-listing : (p : Point) (rest : List ℕ) → InRange p → listingOf (cornerRecord p ++ rest) ≡ pointText p ++ listingOf rest
+corner-listing : (p : Point) (rest : List ℕ) → PointIn p → listingOf (cornerRecord p ++ rest) ≡ pointText p ++ listingOf rest
 unfolding recordText recordSize
 corner-listing p rest f =
     listing-of (cornerRecord p ++ rest) _ (corner-read p rest)
@@ -97,7 +97,7 @@ end-listing corners rest =
 -- ---- the records of a plan, one behind the other
 
 -- the corners of a route
-corners-listing : (ps : List Point) (rest : List ℕ) → All InRange ps → listingOf (flatMap cornerRecord ps ++ rest) ≡ flatMap pointText ps ++ listingOf rest
+corners-listing : (ps : List Point) (rest : List ℕ) → All PointIn ps → listingOf (flatMap cornerRecord ps ++ rest) ≡ flatMap pointText ps ++ listingOf rest
 unfolding flatMap
 corners-listing [] rest a = refl
 corners-listing (p ∷ ps) rest a =
@@ -107,7 +107,7 @@ corners-listing (p ∷ ps) rest a =
     ∙ sym (append-assoc (pointText p) (flatMap pointText ps) (listingOf rest))
 
 -- the records of a run
-entry-listing : (e : Entry) (rest : List ℕ) → EntryFits e → All InRange (e .corners) → length (e .corners) ≤ 127
+entry-listing : (e : Entry) (rest : List ℕ) → EntryFits e → All PointIn (e .corners) → length (e .corners) ≤ 127
     → listingOf (entryBytes e ++ rest) ≡ (ascii "\n" ++ entryText e) ++ listingOf rest
 entry-listing e rest f a h =
     let route = routeRecord (e .number) (e .meets) (length (e .corners)) in
@@ -118,7 +118,7 @@ entry-listing e rest f a h =
     ∙ sym (append-assoc line (flatMap pointText (e .corners)) (listingOf rest))
 
 -- the records of all runs
-entries-listing : (es : List Entry) (rest : List ℕ) → All EntryFits es → All (λ e. All InRange (e .corners)) es → All (λ e. length (e .corners) ≤ 127) es
+entries-listing : (es : List Entry) (rest : List ℕ) → All EntryFits es → All (λ e. All PointIn (e .corners)) es → All (λ e. length (e .corners) ≤ 127) es
     → listingOf (flatMap entryBytes es ++ rest) ≡ flatMap (λ e. ascii "\n" ++ entryText e) es ++ listingOf rest
 unfolding flatMap
 entries-listing [] rest f a h = refl
@@ -138,7 +138,7 @@ separators s f (a ∷ l) =
     ∙ simp append-assoc
 
 -- The listing of a plan's bytes, whatever stands behind them, is the plan's text.
-pub plan-listing : (head : Head) (es : List Entry) → HeadFits head → All EntryFits es → All (λ e. All InRange (e .corners)) es
+pub plan-listing : (head : Head) (es : List Entry) → HeadFits head → All EntryFits es → All (λ e. All PointIn (e .corners)) es
     → All (λ e. length (e .corners) ≤ 127) es → (rest : List ℕ) → listingOf (bookBytes head es ++ rest) ≡ planText head es
 unfolding bookBytes planText
 plan-listing head es g f a h rest =

@@ -3,7 +3,8 @@ use mathlib.Core.Path.{_≡_, sym, ap, _∙_}
 use Prim.Native.Nat.{ℕ, _≤_, _-_}
 use native.Mathlib.Omega.{arith}
 use lib.ListN.{getD}
-use Rattle.network.specs.Hanan.{insert, distinct, distinct-rises}
+use Rattle.network.specs.DistinctRises.{distinct-rises}
+use Rattle.network.specs.Distinct.{insert, distinct}
 use Rattle.grid.specs.declared.Axis.{Axis}
 use Rattle.grid.specs.Lines.{values, axisOf}
 use Rattle.grid.proofs.Insert.{length-insert}

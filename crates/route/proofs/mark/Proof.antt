@@ -1,7 +1,7 @@
 -- `route::mark` meets its contract: on each way the mark that stood there is known.
 use native.Mathlib.Omega.{arith}
 use borrow.Author.Needs.{needs}
-use Rattle.route.specs.Pits.{crossing}
+use Rattle.route.specs.Marked.{crossing}
 use Rattle.route.proofs.Marks.{mark-first, mark-again}
 use Rattle.route.proofs.mark.Statement.{statement}
 use Rattle.route.proofs.mark.Tie as tie

@@ -6,7 +6,7 @@ use native.Mathlib.Omega.{arith}
 use borrow.Author.Needs.{needs}
 use lib.ListN.{length}
 use Rattle.route.specs.Route.{cornersOf}
-use Rattle.route.specs.Pits.{crossing}
+use Rattle.route.specs.Marked.{crossing}
 use Rattle.route.proofs.Walk.{On, left, on-start, on-step, on-few, can-step, at-step, column-in, row-in, left-turned, left-straight, left-end}
 use Rattle.route.proofs.Corners.{left-start}
 use Rattle.route.proofs.Marks.{Rest, rest-all, rest-one}

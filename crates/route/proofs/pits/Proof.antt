@@ -6,7 +6,8 @@ use native.Mathlib.Omega.{arith}
 use borrow.Author.Needs.{needs}
 use lib.ListN.{length, take, replicate}
 use Rattle.route.specs.Route.{OnGrid, numbered, cornersOf}
-use Rattle.route.specs.Pits.{Counted, pitsOf}
+use Rattle.route.specs.Marked.{Counted}
+use Rattle.network.specs.Pits.{pitsOf}
 use Rattle.route.proofs.Lists.{all-at}
 use Rattle.route.proofs.Marks.{counted-none, counted-more, counted-all}
 use Rattle.route.proofs.pits.Statement.{statement}

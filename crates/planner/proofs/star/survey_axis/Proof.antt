@@ -1,7 +1,8 @@
 -- The axis holds the distinct values, which rise.
 use borrow.Author.Needs.{needs}
 use denote.Ref.{now}
-use Rattle.network.specs.Hanan.{distinct, distinct-rises}
+use Rattle.network.specs.DistinctRises.{distinct-rises}
+use Rattle.network.specs.Distinct.{distinct}
 use Rattle.grid.specs.Lines.{values}
 use Rattle.grid.proofs.Places.{axis-rises}
 use Rattle.planner.proofs.star.survey_axis.Statement.{statement}

@@ -1,30 +1,13 @@
--- Pits: "the number of distinct points that are an end or a turn of some route" (01, Plan book); and marks that count them.
+-- Marks that count pits: a byte for each vertex of the grid of indexes.
 use mathlib.Core.Path.{_≡_}
-use mathlib.Core.Bool.{Bool, true, false, not}
-use mathlib.Core.List.{List, [], _∷_, _++_, flatten}
+use mathlib.Core.Bool.{not}
+use mathlib.Core.List.{List, _++_}
 use Prim.Native.Nat.{ℕ, _+_, _*_, _<_}
 use lib.ListN.{length, getD}
 use lib.Dec.{eqb}
-use Rattle.network.specs.Lists.{any}
 use Rattle.network.specs.Plane.{Point}
-use Rattle.network.specs.Route.{Route}
-use Rattle.network.specs.Corners.{samePoint}
+use Rattle.network.specs.Pits.{among, unique}
 use Rattle.route.specs.declared.Vertex.{Vertex}
-
--- p is one of the points
-abbrev pub among : Point → List Point → Bool
-among p l = any (samePoint p) l
-
--- a list of points without repeats
-unfoldable pub unique : List Point → List Point
-unique [] = []
-unique (p ∷ l) = elim (among p l) [ true ↦ unique l | false ↦ p ∷ unique l ]
-
--- the pits of routes that are given by their corners
-unfoldable pub pitsOf : List Route → ℕ
-pitsOf routes = length (unique (flatten routes))
-
--- ---- marks: a byte for each vertex of the grid of indexes
 
 -- a vertex as a point of the grid of indexes
 abbrev pub crossing : Vertex → Point

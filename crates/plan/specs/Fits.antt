@@ -1,0 +1,24 @@
+-- What can be read from its bytes: fields in their range.
+use Prim.Native.Nat.{_^_, _≤_, _<_}
+use Rattle.network.specs.Plane.{Point}
+use Rattle.plan.specs.declared.Head.{Head}
+use Rattle.plan.specs.Plan.{Entry}
+
+-- both coordinates lie in their range
+pub record PointIn (p : Point) : Type 0 where
+  pub x-in : p .x ≤ 2000000
+  pub y-in : p .y ≤ 2000000
+
+-- a run's figures fit their fields
+pub record EntryFits (e : Entry) : Type 0 where
+  pub number-fits : e .number < 65536
+  pub meets-fits : e .meets < 65536
+
+-- a head's figures fit their fields
+pub record HeadFits (h : Head) : Type 0 where
+  pub job-fits : h .job < 2 ^ 32
+  pub runs-fits : h .runs < 65536
+  pub trench-fits : h .trench < 2 ^ 32
+  pub saved-fits : h .saved < 2 ^ 32
+  pub pits-fits : h .pits < 65536
+  pub centre-fits : h .centre < 65536
