@@ -1,6 +1,7 @@
 pub mod Signed
 pub mod Fields
 pub mod Decoded
+pub mod There
 pub mod Steps
 pub mod Columns
 pub mod Progress
@@ -9,4 +10,7 @@ pub mod Written
 pub mod Accepted
 pub mod Answered
 pub mod Prefix
-pub mod Refused
+pub mod Order
+pub mod Located
+pub mod Turns
+pub mod First

@@ -29,6 +29,32 @@ refuse-next x r e = let z : _≡_ {A = ℕ} 0 1 = cc in omega arith
 refuse-end : (x : Refusal) → Refuse x ≡ End → ⊥
 refuse-end x e = let z : _≡_ {A = ℕ} 0 1 = cc in omega arith
 
+-- a run number that passes its test
+pub record Follows (last number : ℕ) : Type 0 where
+  pub least : 1 ≤ number
+  pub most : number ≤ 9999
+  pub rises : last < number
+
+pub follows-true : (last number : ℕ) → follows last number ≡ true → Follows last number
+follows-true last number t =
+    let f = and-eq-true-iff (leb 1 number && leb number 9999) (ltb last number) .0 t in
+    let g = and-eq-true-iff (leb 1 number) (leb number 9999) .0 (f .0) in
+    record { least = leb-true _ _ (g .0); most = leb-true _ _ (g .1); rises = ltb-true _ _ (f .1) }
+
+-- coordinates that pass theirs
+pub record Coordinates (r : Run) : Type 0 where
+  pub x1-in : r .x1 ≤ 2000000
+  pub y1-in : r .y1 ≤ 2000000
+  pub x2-in : r .x2 ≤ 2000000
+  pub y2-in : r .y2 ≤ 2000000
+
+pub coordinates-true : (r : Run) → coordinatesIn r ≡ true → Coordinates r
+coordinates-true r t =
+    let y2 = and-eq-true-iff (leb (r .x1) 2000000 && leb (r .y1) 2000000 && leb (r .x2) 2000000) (leb (r .y2) 2000000) .0 t in
+    let x2 = and-eq-true-iff (leb (r .x1) 2000000 && leb (r .y1) 2000000) (leb (r .x2) 2000000) .0 (y2 .0) in
+    let y1 = and-eq-true-iff (leb (r .x1) 2000000) (leb (r .y1) 2000000) .0 (x2 .0) in
+    record { x1-in = leb-true _ _ (y1 .0); y1-in = leb-true _ _ (y1 .1); x2-in = leb-true _ _ (x2 .1); y2-in = leb-true _ _ (y2 .1) }
+
 -- a run that is taken, after n others of which the last has the number last
 pub record Taken (n last : ℕ) (g : Record) (r : Run) : Type 0 where
   pub is : g ≡ rec.Run r
@@ -44,24 +70,14 @@ taken-run at n last q r e =
     let b = passed (not (follows last (q .number))) _ _ _ (a .1) (refuse-next _ r) in
     let c = passed (not (coordinatesIn q)) _ _ _ (b .1) (refuse-next _ r) in
     let same : q ≡ r = cc (c .1) in
-    let f = and-eq-true-iff (leb 1 (q .number) && leb (q .number) 9999) (ltb last (q .number)) .0 (not-false _ (b .0)) in
-    let g = and-eq-true-iff (leb 1 (q .number)) (leb (q .number) 9999) .0 (f .0) in
-    let y2 = and-eq-true-iff (leb (q .x1) 2000000 && leb (q .y1) 2000000 && leb (q .x2) 2000000) (leb (q .y2) 2000000) .0 (not-false _ (c .0)) in
-    let x2 = and-eq-true-iff (leb (q .x1) 2000000 && leb (q .y1) 2000000) (leb (q .x2) 2000000) .0 (y2 .0) in
-    let y1 = and-eq-true-iff (leb (q .x1) 2000000) (leb (q .y1) 2000000) .0 (x2 .0) in
+    let f = follows-true last (q .number) (not-false _ (b .0)) in
+    let g = coordinates-true q (not-false _ (c .0)) in
     rw (← same)
     (record {
       is = refl;
       below = leb-false _ _ (a .0);
-      rises = ltb-true _ _ (f .1);
-      range = record {
-        least = leb-true _ _ (g .0);
-        most = leb-true _ _ (g .1);
-        x1-in = leb-true _ _ (y1 .0);
-        y1-in = leb-true _ _ (y1 .1);
-        x2-in = leb-true _ _ (x2 .1);
-        y2-in = leb-true _ _ (y2 .1);
-      };
+      rises = f .rises;
+      range = record { least = f .least; most = f .most; x1-in = g .x1-in; y1-in = g .y1-in; x2-in = g .x2-in; y2-in = g .y2-in };
     })
 
 -- an end that is reached: its count is that of the runs before it, of which there is one, and no byte comes after it

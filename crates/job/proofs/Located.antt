@@ -1,0 +1,183 @@
+-- Where a refusal that applies stands, seen from a record that the reader has come to. Every run before it is right (`Passed`), so nothing
+-- applies before its place (`locate`): it is wrong itself, or what applies stands behind it. So what is wrong with it is the first that applies
+-- where nothing else that is wrong with it has an earlier turn (`first-here`).
+-- Assumes nothing.
+use Prim.Native.Nat.{ℕ, zero, suc, _+_, _≤_, _<_}
+use mathlib.Core.Path.{_≡_, refl, sym, ap, _∙_}
+use mathlib.Core.Logic.{_⊎_, inl, inr}
+use mathlib.Core.List.{List}
+use native.Mathlib.Omega.{arith}
+use lib.ListN.{length, getD}
+use Rattle.job.specs.declared.Refusal.{Refusal}
+use Rattle.job.specs.declared.Refusal.the-variants.{ShortWork, ShortPlan, Cut, UnknownKind, Misplaced, WrongCount, WrongNumber, OutOfRange, TooManyRuns, NoRuns, NoStar}
+use Rattle.job.specs.Refusal.{refusalPlace}
+use Rattle.job.specs.Applies.{head, run, end, Starts, Whole, place, Behind, numberAt, countAt, CutAt, UnknownAt, no-head, second-head, after-end, WrongNumberAt, OutOfRangeAt, AppliesIn}
+use Rattle.job.specs.Order.{stageOf, turnOf, Sooner, by-stage, by-place, by-turn, FirstOf}
+use Rattle.job.proofs.There.{whole-uncut, whole-known}
+use Rattle.job.proofs.Order.{either-way}
+
+-- ---- what is wrong with a record
+
+-- what a refusal says of the record at p, behind n runs
+abbrev pub Here : List ℕ → (n p : ℕ) → Refusal → Type 0
+Here s n p ShortWork = ⊥
+Here s n p ShortPlan = ⊥
+Here s n p (Cut q) = CutAt s p
+Here s n p (UnknownKind q) = UnknownAt s p
+Here s n p (Misplaced q) = Starts head s p
+Here s n p (WrongCount q) = Whole end s p × (countAt s p ≡ n → ⊥)
+Here s n p (WrongNumber q) = Whole run s p × WrongNumberAt s n p
+Here s n p (OutOfRange q) = Whole run s p × OutOfRangeAt s p
+Here s n p (TooManyRuns q) = (n ≡ 32) × Starts run s p
+Here s n p (NoRuns q) = (n ≡ 0) × Starts end s p
+Here s n p NoStar = ⊥
+
+-- what is wrong with a record that begins is a refusal that applies at its place
+applies-here : (s : List ℕ) (n p : ℕ) → Behind s n p → (x : Refusal) → p ≡ refusalPlace x → Here s n p x → AppliesIn s x
+applies-here s n p b ShortWork e h = absurd h
+applies-here s n p b ShortPlan e h = absurd h
+applies-here s n p b (Cut q) e h = rw (← e) (inr (n, b), h)
+applies-here s n p b (UnknownKind q) e h = rw (← e) (inr (n, b), h)
+applies-here s n p b (Misplaced q) e h = rw (← e) (second-head n b h)
+applies-here s n p b (WrongCount q) e h = rw (← e) (n, b, h .0, h .1)
+applies-here s n p b (WrongNumber q) e h = rw (← e) (n, b, h .0, h .1)
+applies-here s n p b (OutOfRange q) e h = rw (← e) (n, b, h .0, h .1)
+applies-here s n p b (TooManyRuns q) e h = rw (← e) (rw (h .0) at b, h .1)
+applies-here s n p b (NoRuns q) e h = rw (← e) (rw (h .0) at b, h .1)
+applies-here s n p b NoStar e h = absurd h
+
+-- what applies where a head stands first: a record behind it is wrong, or a byte stands behind the end
+data Found (s : List ℕ) (x : Refusal) : Type 0 where
+  nth : (n p : ℕ) → Behind s n p → refusalPlace x ≡ p → Here s n p x → Found s x
+  after : (n p : ℕ) → Behind s n p → Whole end s p → x ≡ Misplaced (p + 3) → p + 3 < length s → Found s x
+
+-- every refusal that applies is one of the two
+found : (s : List ℕ) → Whole head s 0 → (x : Refusal) → AppliesIn s x → Found s x
+found s w ShortWork a = absurd a
+found s w ShortPlan a = absurd a
+found s w (Cut p) (inl e, c) = absurd (whole-uncut head s 0 w (rw e at c))
+found s w (Cut p) (inr (n, b), c) = nth n p b refl c
+found s w (UnknownKind p) (inl e, c) = absurd (whole-known head s 0 w (rw e at c))
+found s w (UnknownKind p) (inr (n, b), c) = nth n p b refl c
+found s w (Misplaced p) (no-head e l h) = absurd (h (ap (λ (i : ℕ). getD s i 0) e ∙ w .starts .kind))
+found s w (Misplaced p) (second-head n b h) = nth n p b refl h
+found s w (Misplaced p) (after-end n q b e at l) = after n q b e (ap Misplaced at) (rw at at l)
+found s w (WrongCount p) (n, b, h, d) = nth n p b refl (h, d)
+found s w (WrongNumber p) (n, b, h, d) = nth n p b refl (h, d)
+found s w (OutOfRange p) (n, b, h, d) = nth n p b refl (h, d)
+found s w (TooManyRuns p) (b, h) = nth 32 p b refl (refl, h)
+found s w (NoRuns p) (b, h) = nth 0 p b refl (refl, h)
+found s w NoStar a = absurd a
+
+-- all refusals of the bytes are of one stage
+pub one-stage : (s : List ℕ) (x : Refusal) → AppliesIn s x → stageOf x ≡ stageOf (Cut 0)
+one-stage s ShortWork a = absurd a
+one-stage s ShortPlan a = absurd a
+one-stage s (Cut p) a = refl
+one-stage s (UnknownKind p) a = refl
+one-stage s (Misplaced p) a = refl
+one-stage s (WrongCount p) a = refl
+one-stage s (WrongNumber p) a = refl
+one-stage s (OutOfRange p) a = refl
+one-stage s (TooManyRuns p) a = refl
+one-stage s (NoRuns p) a = refl
+one-stage s NoStar a = absurd a
+
+-- ---- the runs before a record are right
+
+-- the number of the last of n runs, 0 where there is none
+abbrev pub lastNumber : List ℕ → ℕ → ℕ
+lastNumber s zero = 0
+lastNumber s (suc m) = numberAt s (place m)
+
+-- nothing is wrong with run i but that it may be one too many
+pub record Right (s : List ℕ) (i : ℕ) : Type 0 where
+  pub numbered : WrongNumberAt s i (place i) → ⊥
+  pub ranged : OutOfRangeAt s (place i) → ⊥
+
+-- the reader has passed a head and n runs, all of them right, the last of them with the number last, and stands at p
+pub record Passed (s : List ℕ) (n p last : ℕ) : Type 0 where
+  pub behind : Behind s n p
+  pub most : n ≤ 32
+  pub is-last : last ≡ lastNumber s n
+  pub right : (i : ℕ) → i < n → Right s i
+
+-- where a refusal that applies stands, seen from the record at p: there, behind it where it is a run, or just behind it where it is an end
+pub data Located (s : List ℕ) (n p : ℕ) (x : Refusal) : Type 0 where
+  here : refusalPlace x ≡ p → Here s n p x → Located s n p x
+  later : p < refusalPlace x → Whole run s p → Located s n p x
+  behind : x ≡ Misplaced (p + 3) → Whole end s p → p + 3 < length s → Located s n p x
+
+-- a record is of one kind
+pub run-head : (s : List ℕ) (p : ℕ) → Whole run s p → Starts head s p → ⊥
+run-head s p w h = omega (arith, w .starts .kind, h .kind)
+
+pub run-end : (s : List ℕ) (p : ℕ) → Whole run s p → Starts end s p → ⊥
+run-end s p w h = omega (arith, w .starts .kind, h .kind)
+
+module _ (s : List ℕ) (n p last : ℕ) (h : Passed s n p last) where
+  -- nothing is wrong with a run that was passed
+  settled : (m : ℕ) → m < n → (x : Refusal) → Here s m (place m) x → ⊥
+  settled m l ShortWork d = d
+  settled m l ShortPlan d = d
+  settled m l (Cut q) d = whole-uncut run s (place m) (h .behind .runs m l) d
+  settled m l (UnknownKind q) d = whole-known run s (place m) (h .behind .runs m l) d
+  settled m l (Misplaced q) d = run-head s (place m) (h .behind .runs m l) d
+  settled m l (WrongCount q) d = run-end s (place m) (h .behind .runs m l) (d .0 .starts)
+  settled m l (WrongNumber q) d = h .right m l .numbered (d .1)
+  settled m l (OutOfRange q) d = h .right m l .ranged (d .1)
+  settled m l (TooManyRuns q) d = omega (arith, d .0, h .most)
+  settled m l (NoRuns q) d = run-end s (place m) (h .behind .runs m l) (d .1)
+  settled m l NoStar d = d
+
+  -- the run at p, where the bytes go on behind it
+  run-here : (m q : ℕ) → Behind s m q → n < m → Whole run s p
+  run-here m q b l = rw (h .behind .at) (b .runs n l)
+
+  -- a record that is wrong is the one at p, or behind it
+  locate-nth : (m q : ℕ) → Behind s m q → (x : Refusal) → refusalPlace x ≡ q → Here s m q x → Located s n p x
+  locate-nth m q b x e d = go (either-way m n)
+    where
+      go : (m < n) ⊎ ((m ≡ n) ⊎ (n < m)) → Located s n p x
+      go (inl l) = absurd (settled m l x (rw (b .at) at d))
+      go (inr (inl l)) =
+          let k : q ≡ p = omega (arith, b .at, h .behind .at) in
+          here (e ∙ k) (rw (l, k) at d)
+      go (inr (inr l)) = later (omega (arith, b .at, h .behind .at)) (run-here m q b l)
+
+  -- so is a byte behind an end
+  locate-after : (m q : ℕ) → Behind s m q → Whole end s q → (x : Refusal) → x ≡ Misplaced (q + 3) → q + 3 < length s → Located s n p x
+  locate-after m q b w x e f = go (either-way m n)
+    where
+      go : (m < n) ⊎ ((m ≡ n) ⊎ (n < m)) → Located s n p x
+      go (inl l) = absurd (run-end s (place m) (h .behind .runs m l) (rw (b .at) at (w .starts)))
+      go (inr (inl l)) =
+          let k : q ≡ p = omega (arith, b .at, h .behind .at) in
+          behind (rw k at e) (rw k at w) (rw k at f)
+      go (inr (inr l)) = later (omega (arith, b .at, h .behind .at, ap refusalPlace e)) (run-here m q b l)
+
+  -- nothing applies before p
+  pub locate : (x : Refusal) → AppliesIn s x → Located s n p x
+  locate x a = go (found s (h .behind .headed) x a)
+    where
+      go : Found s x → Located s n p x
+      go (nth m q b e d) = locate-nth m q b x e d
+      go (after m q b w e l) = locate-after m q b w x e l
+
+  -- what is wrong with the record at p is the first that applies, if nothing else that is wrong with it has an earlier turn
+  pub first-here : (x : Refusal) → refusalPlace x ≡ p → Here s n p x → ((y : Refusal) → Here s n p y → turnOf x ≤ turnOf y) → FirstOf (AppliesIn s) x
+  first-here x e d least = record { applies = a; first = λ y b q. go y (one-stage s y b) (locate y b) q }
+    where
+      a : AppliesIn s x
+      a = applies-here s n p (h .behind) x (sym e) d
+
+      go : (y : Refusal) → stageOf y ≡ stageOf (Cut 0) → Located s n p y → Sooner y x → ⊥
+      go y g (here k c) (by-stage l) = omega (arith, one-stage s x a)
+      go y g (here k c) (by-place t l) = omega arith
+      go y g (here k c) (by-turn t r l) = omega (arith, least y c)
+      go y g (later k w) (by-stage l) = omega (arith, one-stage s x a)
+      go y g (later k w) (by-place t l) = omega arith
+      go y g (later k w) (by-turn t r l) = omega arith
+      go y g (behind k w f) (by-stage l) = omega (arith, one-stage s x a)
+      go y g (behind k w f) (by-place t l) = omega (arith, ap refusalPlace k)
+      go y g (behind k w f) (by-turn t r l) = omega (arith, ap refusalPlace k)
