@@ -1,114 +1,38 @@
--- THE THREE DEMANDS, as what follows for a reader from the contract of a call: `Outcome` of the verdict.
+-- THE THREE DEMANDS follow from the contract of a call, `Outcome` of the verdict. The verdict is the first refusal that applies, or the job (`First`,
+-- `Stars`); and a plan's bytes determine its head and corners, so whoever reads them as a plan reads the one that was written.
 use mathlib.Core.Path.{_≡_, refl, sym, ap, _∙_, subst}
-use mathlib.Core.Bool.{Bool, true, false, cond, true≢false}
 use mathlib.Core.Logic.{_↔_}
-use mathlib.Core.List.{List, [], _∷_, map}
-use Prim.Native.Nat.{ℕ, _-_, _≤_}
+use mathlib.Core.List.{List, map}
+use Prim.Native.Nat.{ℕ, zero, suc, _-_, _≤_}
 use native.Mathlib.Omega.{arith}
-use borrow.Author.Tests.{ltb-false}
-use lib.Dec.{ltb}
+use lib.IntN.{ℤ, pos, negℤ}
 use lib.ListN.{length, getD, take, drop}
 use lib.Seq.{take-append-seam}
 use Rattle.network.specs.Lists.{sum, All}
-use Rattle.network.specs.Plane.{Run, distance}
+use Rattle.network.specs.Plane.{distance}
 use Rattle.network.specs.Hanan.{hanan}
 use Rattle.network.specs.Route.{Route, unionLength, Least}
-use Rattle.network.specs.Graph.{meets, below, centres, IsCentre}
 use Rattle.network.specs.Corners.{corners}
-use Rattle.network.proofs.Centres.{centres-first, centres-none}
 use Rattle.network.proofs.Corners.{corners-least}
-use Rattle.network.proofs.Leaves.{below-rises}
 use Rattle.job.specs.declared.Run.{Run as Read}
 use Rattle.job.specs.Refusal.{refusalNumber, refusalPlace}
-use Rattle.job.specs.declared.Refusal.the-variants.{ShortWork, ShortPlan, NoStar}
 use Rattle.job.specs.Parse.{Parsed, accepted, refused, parse}
-use Rattle.job.specs.Written.{Bytes, WellFormed, bytesOf}
-use Rattle.job.proofs.Accepted.{accepted-iff}
+use Rattle.job.specs.Written.{Bytes, WellFormed}
 use Rattle.plan.specs.declared.Head.{Head}
 use Rattle.plan.specs.Plan.{Entry, bookBytes, entriesFrom, headOf, meetsOf, drawnBytes, planBytes}
 use Rattle.plan.proofs.Determined.{book-head, book-corners}
 use Rattle.plan.specs.Fits.{PointIn, HeadFits}
 use Rattle.plan.proofs.Whole.{entries-corners}
-use Rattle.planner.specs.Verdict.{centresOf, isStar, judged, verdict}
-use Rattle.planner.specs.Call.{runsOf, numbersOf, planOf, Said, gives}
-use Rattle.planner.specs.Outcome.{Outcome}
-use Rattle.planner.specs.Demands.{JobIn, IsStar, Admitted, LeastPlan, Demands}
+use Rattle.planner.specs.declared.Answer.{Answer}
+use Rattle.planner.specs.Verdict.{verdict}
+use Rattle.planner.specs.Call.{runsOf, numbersOf, planOf, Said, gives, refuses, said, codeOf, Plans, Words}
+use Rattle.planner.specs.Outcome.{Outcome, MapOutcome}
+use Rattle.planner.specs.Demands.{JobIn, Admitted, Leaves, LeastPlan, Demands, PlanDemands, MapDemands}
 use Rattle.planner.proofs.Fits.{corners-in, head-fits}
-use Rattle.planner.proofs.Verdicts.{no-plan, enough}
-
--- ---- the intersection graph is a star
-
-star-is : (runs : List Run) → isStar (centresOf runs) ≡ true → IsStar runs
-unfolding centresOf
-star-is runs h = go (centres (meets (hanan runs) runs) (below (length runs))) refl h
-  where
-    go : (l : List ℕ) → centres (meets (hanan runs) runs) (below (length runs)) ≡ l → isStar l ≡ true → IsStar runs
-    go [] e k = absurd (true≢false (sym k))
-    go (c ∷ rest) e k =
-        record { centre = c; is = centres-first (meets (hanan runs) runs) (below (length runs)) (below-rises (length runs)) c rest e .0 }
-
-is-star : (runs : List Run) → IsStar runs → isStar (centresOf runs) ≡ true
-unfolding centresOf
-is-star runs s = go (centres (meets (hanan runs) runs) (below (length runs))) refl
-  where
-    go : (l : List ℕ) → centres (meets (hanan runs) runs) (below (length runs)) ≡ l → isStar l ≡ true
-    go [] e = absurd (centres-none (meets (hanan runs) runs) (below (length runs)) e (s .centre) (s .is))
-    go (c ∷ rest) e = refl
-
--- ---- demand 2: accepted exactly if well formed and a star
-
-judged-accepts : (p : Parsed) (number : ℕ) (runs : List Read) → judged p ≡ accepted number runs
-    → (p ≡ accepted number runs) × (isStar (centresOf (runsOf runs)) ≡ true)
-unfolding judged
-judged-accepts (accepted m rs) number runs e = go (isStar (centresOf (runsOf rs))) refl e
-  where
-    go : (b : Bool) → isStar (centresOf (runsOf rs)) ≡ b → cond b (accepted m rs) (refused NoStar) ≡ accepted number runs
-        → (accepted m rs ≡ accepted number runs) × (isStar (centresOf (runsOf runs)) ≡ true)
-    go true h k = let z : rs ≡ runs = cc in (k, subst (λ (l : List Read). isStar (centresOf (runsOf l)) ≡ true) z h)
-    go false h k = absurd (let z : _≡_ {A = ℕ} 0 1 = cc in omega arith)
-judged-accepts (refused x) number runs e = absurd (let z : _≡_ {A = ℕ} 0 1 = cc in omega arith)
-
-accepts-judged : (p : Parsed) (number : ℕ) (runs : List Read) → p ≡ accepted number runs → isStar (centresOf (runsOf runs)) ≡ true
-    → judged p ≡ accepted number runs
-unfolding judged
-accepts-judged p number runs e h = rw (e, h)
-
--- the bytes that are accepted are a well-formed job written down, and its runs form a star; and such bytes are accepted
-module _ (job : List ℕ) (b : Bytes job) where
-  job-star : (number : ℕ) (runs : List Read) → judged (parse job) ≡ accepted number runs
-      → WellFormed number runs × (job ≡ bytesOf number runs) × IsStar (runsOf runs)
-  job-star number runs e =
-      let (p, s) = judged-accepts (parse job) number runs e in
-      let (w, j) = accepted-iff job number runs b .0 p in
-      (w, j, star-is (runsOf runs) s)
-
-  star-job : (j : JobIn job) → IsStar (runsOf (j .runs)) → judged (parse job) ≡ accepted (j .number) (j .runs)
-  star-job j s =
-      accepts-judged (parse job) (j .number) (j .runs) (accepted-iff job (j .number) (j .runs) b .1 (j .well-formed, j .written)) (is-star (runsOf (j .runs)) s)
-
--- an accepted job has at most 32 runs
-pub accepted-few : (job : List ℕ) (number : ℕ) (runs : List Read) → Bytes job → judged (parse job) ≡ accepted number runs → length runs ≤ 32
-accepted-few job number runs b e = job-star job b number runs e .0 .most
-
--- what is accepted was lent enough
-lent-enough : (job : List ℕ) (words bytes number : ℕ) (runs : List Read) → verdict job words bytes ≡ accepted number runs
-    → (16384 ≤ words) × (40960 ≤ bytes) × (judged (parse job) ≡ accepted number runs)
-unfolding verdict
-lent-enough job words bytes number runs e = go (ltb words 16384) refl (ltb bytes 40960) refl e
-  where
-    go : (s : Bool) → ltb words 16384 ≡ s → (t : Bool) → ltb bytes 40960 ≡ t → cond s (refused ShortWork) (cond t (refused ShortPlan) (judged (parse job))) ≡ accepted number runs
-        → (16384 ≤ words) × (40960 ≤ bytes) × (judged (parse job) ≡ accepted number runs)
-    go true h t k q = absurd (let z : _≡_ {A = ℕ} 0 1 = cc in omega arith)
-    go false h true k q = absurd (let z : _≡_ {A = ℕ} 0 1 = cc in omega arith)
-    go false h false k q = (ltb-false words 16384 h, ltb-false bytes 40960 k, q)
-
--- two jobs of the same bytes are the same
-same-job : (job : List ℕ) → Bytes job → (j : JobIn job) (number : ℕ) (runs : List Read) → parse job ≡ accepted number runs
-    → (number ≡ j .number) × (runs ≡ j .runs)
-same-job job b j number runs e = same (sym e ∙ accepted-iff job (j .number) (j .runs) b .1 (j .well-formed, j .written))
-  where
-    same : accepted number runs ≡ accepted (j .number) (j .runs) → (number ≡ j .number) × (runs ≡ j .runs)
-    same q = (cc, cc)
+use Rattle.planner.proofs.Verdicts.{no-plan, enough, lent-enough}
+use Rattle.planner.proofs.Stars.{judged-accepts, job-star, star-job, same-job}
+use Rattle.planner.proofs.First.{first-given}
+use Rattle.planner.proofs.Minus.{refusal-few}
 
 -- ---- the plan's bytes, read as a head and entries
 
@@ -180,6 +104,65 @@ module _ (job : List ℕ) (words : ℕ) (out : List ℕ) (s : Said) (out′ : Li
           subst (λ rs. LeastPlan rs head es) (same-job job b j number runs (judged-accepts (parse job) number runs d .0) .1)
           (read-least number runs (job-star job b number runs d .0) (p .routes) (p .least) head es fits in-range (q ∙ front))
 
+  -- DEMAND 1: what is said and what is left
+  leaves : Leaves job words out s out′
+  leaves = go (verdict job words (length out)) refl call
+    where
+      go : (v : Parsed) → verdict job words (length out) ≡ v → Outcome v out s out′ → Leaves job words out s out′
+      go (accepted number runs) e p =
+          let (w, j, t) = job-star job b number runs (lent-enough job words (length out) number runs e .2) in
+          subst (λ a. Leaves job words out a out′) (sym (p .says))
+          (record { number = number; runs = runs; well-formed = w; written = j }, subst (λ a. Plans number runs out a out′) (p .says) p)
+      go (refused x) e p =
+          subst (λ a. Leaves job words out a out′) (sym (p .says))
+          (record { refusal = x; first = first-given job words (length out) b x .0 e; number-is = refl; place-is = refl }, p .plan-kept)
+
   -- of any call with this outcome
   pub demands : Demands job words out s out′
-  demands = record { demand-2 = answered; demand-3 = least-read }
+  demands = record { demand-1 = leaves; demand-2 = answered; demand-3 = least-read }
+
+-- THE DEMANDS OF `plan`, from its contract
+pub plan-demands : (job work out : List ℕ) (answer : Answer) (work′ out′ : List ℕ) → Bytes job
+    → Outcome (verdict job (length work) (length out)) out (said answer) out′ × Words (said answer) work work′ → PlanDemands job work out answer work′ out′
+plan-demands job work out answer work′ out′ b call = record { demands = demands job (length work) out (said answer) out′ b (call .0); words = call .1 }
+
+-- a code that is a length tells of a plan
+code-gives : (s : Said) (job : List ℕ) (words : ℕ) (out out′ : List ℕ) → Leaves job words out s out′ → (n : ℕ) → codeOf s ≡ pos n → s ≡ gives n
+code-gives (gives m) job words out out′ l n e = ap gives (same m n e)
+  where
+    same : (a b : ℕ) → pos a ≡ pos b → a ≡ b
+    same a b q = cc
+code-gives (refuses number place) job words out out′ l n e = absurd (below number (omega (arith, l .0 .number-is, refusal-few (l .0 .refusal))) e)
+  where
+    below : (k : ℕ) → 1 ≤ k → negℤ (pos k) ≡ pos n → ⊥
+    below zero h q = omega arith
+    below (suc k) h q = let z : _≡_ {A = ℕ} 0 1 = cc in omega arith
+
+-- THE DEMANDS OF THE MAP SCREEN'S FUNCTION, from its contract
+pub map-demands : (job out : List ℕ) (code : ℤ) (out′ : List ℕ) → Bytes job → MapOutcome (verdict job 16384 (length out)) out code out′
+    → MapDemands job out code out′
+map-demands job out code out′ b call =
+    let s = call .said in
+    let d = demands job 16384 out s out′ b (call .outcome) in
+    record {
+      says = s;
+      told = call .told;
+      demands = d;
+      answered = (
+        λ a. d .demand-2 .0 (a .0, code-gives s job 16384 out out′ (d .demand-1) (a .0) (sym (call .told) ∙ a .1)),
+        λ a. let (n, e) = d .demand-2 .1 a in (n, call .told ∙ ap codeOf e),
+      );
+    }
+
+-- Two plans of one job have the same trench and the same saved figure; their meets figures are the job's.
+pub same-figures : (number : ℕ) (runs : List Read) (routes others : List Route) → Least (hanan (runsOf runs)) (runsOf runs) routes
+    → Least (hanan (runsOf runs)) (runsOf runs) others
+    → (headOf number (numbersOf runs) (runsOf runs) (ownRoutes routes) .trench ≡ headOf number (numbersOf runs) (runsOf runs) (ownRoutes others) .trench)
+    × (headOf number (numbersOf runs) (runsOf runs) (ownRoutes routes) .saved ≡ headOf number (numbersOf runs) (runsOf runs) (ownRoutes others) .saved)
+same-figures number runs routes others l k =
+    let g = hanan (runsOf runs) in
+    let a = corners-least g (runsOf runs) routes l in
+    let b = corners-least g (runsOf runs) others k in
+    let e : unionLength g (ownRoutes routes) ≡ unionLength g (ownRoutes others)
+    = omega (arith, a .least (ownRoutes others) (b .are-routes), b .least (ownRoutes routes) (a .are-routes)) in
+    (e, ap (λ n. sum distance (runsOf runs) - n) e)

@@ -1,4 +1,6 @@
 -- The laws behind the planner's contract, and what follows from it.
+pub mod Stars
+pub mod First
 pub mod Demands
 pub mod Centred
 pub mod Fits

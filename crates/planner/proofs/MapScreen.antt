@@ -22,7 +22,7 @@ use Rattle.planner.specs.Outcome.{Outcome, MapOutcome}
 use Rattle.planner.proofs.Fits.{few-lines}
 use Rattle.planner.proofs.Verdicts.{no-plan, short-plan}
 use Rattle.planner.proofs.Stages.{decided}
-use Rattle.planner.proofs.Demands.{accepted-few}
+use Rattle.planner.proofs.Stars.{accepted-few}
 use Rattle.planner.proofs.Minus.{refusal-few, minus-fits}
 
 -- no plan exceeds 36,822 bytes
@@ -51,7 +51,7 @@ refusal-told : (v : Parsed) (out out′ : List ℕ) (x : Refusal) (code : ℤ) �
     → MapOutcome v out (toZ w32 (ofZ w32 code)) out′
 refusal-told v out out′ x code f o =
     told v out out′ (said (Refused x)) code
-    (ap (λ z. toZ w32 (ofZ w32 z)) f ∙ toZ-ofZ w32 (codeOf (said (Refused x))) (minus-fits (refusalNumber x) (refusal-few x)) ∙ sym f) f o
+    (ap (λ z. toZ w32 (ofZ w32 z)) f ∙ toZ-ofZ w32 (codeOf (said (Refused x))) (minus-fits (refusalNumber x) (refusal-few x .1)) ∙ sym f) f o
 
 -- a plan buffer that is too short
 pub told-short : (job out : List ℕ) (code : ℤ) → length out < 40960 → code ≡ codeOf (said (Refused ShortPlan))

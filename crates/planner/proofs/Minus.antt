@@ -10,8 +10,8 @@ use Rattle.job.specs.declared.Refusal.{Refusal}
 use Rattle.job.specs.declared.Refusal.the-variants.{ShortWork, ShortPlan, Cut, UnknownKind, Misplaced, WrongCount, WrongNumber, OutOfRange, TooManyRuns, NoRuns, NoStar}
 use Rattle.job.specs.Refusal.{refusalNumber}
 
--- there are 11 refusals
-pub refusal-few : (x : Refusal) → refusalNumber x ≤ 11
+-- refusals have the numbers 1 to 11
+pub refusal-few : (x : Refusal) → (1 ≤ refusalNumber x) × (refusalNumber x ≤ 11)
 refusal-few ShortWork = omega arith
 refusal-few ShortPlan = omega arith
 refusal-few (Cut at) = omega arith

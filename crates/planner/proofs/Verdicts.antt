@@ -1,10 +1,11 @@
 -- The outcomes of a call, stage by stage: the verdict falls where the code answers.
 use mathlib.Core.Path.{_≡_, refl}
-use mathlib.Core.Bool.{cond}
+use mathlib.Core.Bool.{Bool, true, false, cond}
 use mathlib.Core.List.{List, [], _∷_}
+use lib.Dec.{ltb}
 use Prim.Native.Nat.{ℕ, _≤_, _<_}
 use native.Mathlib.Omega.{arith}
-use borrow.Author.Tests.{lt-ltb, le-ltb}
+use borrow.Author.Tests.{lt-ltb, le-ltb, ltb-false}
 use lib.ListN.{length}
 use Rattle.job.specs.declared.Run.{Run as Read}
 use Rattle.job.specs.declared.Refusal.{Refusal}
@@ -64,3 +65,15 @@ module _ (number : ℕ) (runs : List Read) (out : List ℕ) where
       go : (l : List ℕ) → starOf l ≡ star.Centre c → Outcome (cond (isStar l) (accepted number runs) (refused NoStar)) out s out′
       go [] q = absurd (let z : _≡_ {A = ℕ} 0 1 = cc in omega arith)
       go (d ∷ rest) q = p
+
+-- what is accepted was lent enough
+pub lent-enough : (job : List ℕ) (words bytes number : ℕ) (runs : List Read) → verdict job words bytes ≡ accepted number runs
+    → (16384 ≤ words) × (40960 ≤ bytes) × (judged (parse job) ≡ accepted number runs)
+unfolding verdict
+lent-enough job words bytes number runs e = go (ltb words 16384) refl (ltb bytes 40960) refl e
+  where
+    go : (s : Bool) → ltb words 16384 ≡ s → (t : Bool) → ltb bytes 40960 ≡ t → cond s (refused ShortWork) (cond t (refused ShortPlan) (judged (parse job))) ≡ accepted number runs
+        → (16384 ≤ words) × (40960 ≤ bytes) × (judged (parse job) ≡ accepted number runs)
+    go true h t k q = absurd (let z : _≡_ {A = ℕ} 0 1 = cc in omega arith)
+    go false h true k q = absurd (let z : _≡_ {A = ℕ} 0 1 = cc in omega arith)
+    go false h false k q = (ltb-false words 16384 h, ltb-false bytes 40960 k, q)

@@ -2,7 +2,8 @@
 use mathlib.Core.Path.{_≡_}
 use mathlib.Core.Logic.{_↔_}
 use mathlib.Core.List.{List, map}
-use Prim.Native.Nat.{ℕ, _≤_}
+use Prim.Native.Nat.{ℕ, _≤_, _<_}
+use lib.IntN.{ℤ, pos}
 use lib.ListN.{length, take}
 use Rattle.network.specs.Lists.{All}
 use Rattle.network.specs.Plane.{Run}
@@ -11,11 +12,16 @@ use Rattle.network.specs.Route.{unionLength, Least}
 use Rattle.network.specs.Graph.{meets, below, IsCentre}
 use Rattle.job.specs.declared.Run.{Run as Read}
 use Rattle.job.specs.declared.Refusal.{Refusal}
+use Rattle.job.specs.declared.Refusal.the-variants.{ShortWork, ShortPlan, NoStar}
+use Rattle.job.specs.Refusal.{refusalNumber, refusalPlace}
+use Rattle.job.specs.Applies.{AppliesIn}
+use Rattle.job.specs.Order.{FirstOf}
 use Rattle.job.specs.Written.{WellFormed, bytesOf}
 use Rattle.plan.specs.declared.Head.{Head}
 use Rattle.plan.specs.Plan.{Entry, bookBytes}
 use Rattle.plan.specs.Fits.{PointIn, HeadFits}
-use Rattle.planner.specs.Call.{runsOf, Said, gives, refuses, Plans}
+use Rattle.planner.specs.declared.Answer.{Answer}
+use Rattle.planner.specs.Call.{runsOf, Said, gives, refuses, said, codeOf, Plans, Words}
 
 -- the bytes are those of a well-formed job
 pub record JobIn (job : List ℕ) : Type 0 where
@@ -36,6 +42,27 @@ pub record Admitted (job : List ℕ) (words bytes : ℕ) : Type 0 where
   pub job-in : JobIn job
   pub star : IsStar (runsOf (job-in .runs))
 
+-- When a refusal applies to a call: 1, "work sheet under 16,384 words"; 2, "plan buffer under 40,960 bytes"; 3 to 10 by the job's bytes; 11, "well formed,
+-- but no star".
+pub data Applies (job : List ℕ) (words bytes : ℕ) : Refusal → Type 0 where
+  short-work : words < 16384 → Applies job words bytes ShortWork
+  short-plan : bytes < 40960 → Applies job words bytes ShortPlan
+  in-bytes : {x : Refusal} → AppliesIn job x → Applies job words bytes x
+  no-star : (j : JobIn job) → (IsStar (runsOf (j .runs)) → ⊥) → Applies job words bytes NoStar
+
+-- "The first that applies is given": its number and its place
+pub record Given (job : List ℕ) (words bytes number place : ℕ) : Type 0 where
+  pub refusal : Refusal
+  pub first : FirstOf (Applies job words bytes) refusal
+  pub number-is : number ≡ refusalNumber refusal
+  pub place-is : place ≡ refusalPlace refusal
+
+-- What is said, and what the plan buffer then holds: the length of a plan of the job, which stands in front; or the first refusal that applies, and
+-- no byte is changed.
+abbrev pub Leaves : (job : List ℕ) (words : ℕ) (out : List ℕ) → Said → (out′ : List ℕ) → Type 0
+Leaves job words out (gives n) out′ = (j : JobIn job) × Plans (j .number) (j .runs) out (gives n) out′
+Leaves job words out (refuses number place) out′ = Given job words (length out) number place × (out′ ≡ out)
+
 -- the routes that the corners of a plan's entries draw are least, and the trench figure is the length of their union
 pub record LeastPlan (runs : List Read) (head : Head) (es : List Entry) : Type 0 where
   pub least : Least (hanan (runsOf runs)) (runsOf runs) (map (λ e. e .corners) es)
@@ -43,8 +70,21 @@ pub record LeastPlan (runs : List Read) (head : Head) (es : List Entry) : Type 0
 
 -- a call that is lent the bytes of a job, so many words and the plan buffer `out`, says s, and leaves `out′`
 pub record Demands (job : List ℕ) (words : ℕ) (out : List ℕ) (s : Said) (out′ : List ℕ) : Type 0 where
+  pub demand-1 : Leaves job words out s out′
   -- a plan is answered exactly if enough is lent, and the job is well formed and a star
   pub demand-2 : ((n : ℕ) × (s ≡ gives n)) ↔ Admitted job words (length out)
   -- however the first bytes, as many as are answered, are read as a head and entries, these are a least plan of the job
   pub demand-3 : (n : ℕ) → s ≡ gives n → (j : JobIn job) (head : Head) (es : List Entry) → HeadFits head → All (All PointIn) (map (λ e. e .corners) es)
       → bookBytes head es ≡ take n out′ → LeastPlan (j .runs) head es
+
+-- `plan` answers and leaves this, the work words among it
+pub record PlanDemands (job work out : List ℕ) (answer : Answer) (work′ out′ : List ℕ) : Type 0 where
+  pub demands : Demands job (length work) out (said answer) out′
+  pub words : Words (said answer) work work′
+
+-- The map screen's function, which has work words enough, returns a code: that of what is said. It is a length exactly if a plan is answered.
+pub record MapDemands (job out : List ℕ) (code : ℤ) (out′ : List ℕ) : Type 0 where
+  pub says : Said
+  pub told : code ≡ codeOf says
+  pub demands : Demands job 16384 out says out′
+  pub answered : ((n : ℕ) × (code ≡ pos n)) ↔ Admitted job 16384 (length out)

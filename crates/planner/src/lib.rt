@@ -18,6 +18,9 @@ ghost use Rattle.planner.specs.Outcome.{Outcome, MapOutcome};
 ghost use Rattle.planner.specs.Held.{runsIn, Held};
 ghost use Rattle.planner.specs.Stages.{Lent, Enough, Starred, Left};
 
+// The least plan buffer, in bytes.
+const PLAN_BYTES: usize = 40960;
+
 // What a call says: the plan's length, or why there is none.
 pub enum Answer {
     Planned(usize),
@@ -81,7 +84,7 @@ pub fn plan(job: &[u8], work: &mut [u32], out: &mut [u8]) -> Answer
     if work.len() < 16384 {
         return Answer::Refused(Refusal::ShortWork);
     }
-    if out.len() < 40960 {
+    if out.len() < PLAN_BYTES {
         return Answer::Refused(Refusal::ShortPlan);
     }
     let answer = plan_in(job, work, out);
@@ -151,7 +154,7 @@ fn plan_own(job: &[u8], out: &mut [u8]) -> Answer
 pub extern "C" fn trench_plan(job: &[u8], out: &mut [u8]) -> i32
     ensures { λ r. ⌜ MapOutcome (verdict (now (job .entry)) 16384 (length (now (out .entry)))) (now (out .entry)) r (now (out .exit)) ⌝ }
 {
-    if out.len() < 40960 {
+    if out.len() < PLAN_BYTES {
         return codes::code_of(Refusal::ShortPlan);
     }
     let answer = plan_own(job, out);

@@ -15,7 +15,7 @@ refusal-number-requires : tie.Need-refusal-number-requires
 refusal-number-requires c κs = search needs
 
 few : (c : tie.After-refusal-number) → c .refusal-number .result ≤ 11
-few c = omega (arith, refusal-few (c .before .args .refusal))
+few c = omega (arith, refusal-few (c .before .args .refusal) .1)
 
 cast-result : tie.Need-cast-result
 cast-result c = record { sfits = omega (arith, few c) }

@@ -1,0 +1,103 @@
+-- What is judged of the bytes of a job: accepted exactly if they are a well-formed job written down, and its runs form a star.
+use mathlib.Core.Path.{_≡_, refl, sym, ap, _∙_, subst}
+use mathlib.Core.Bool.{Bool, true, false, cond, true≢false}
+use mathlib.Core.Logic.{_⊎_, inl, inr}
+use mathlib.Core.List.{List, [], _∷_}
+use Prim.Native.Nat.{ℕ, _≤_}
+use native.Mathlib.Omega.{arith}
+use lib.ListN.{length}
+use Rattle.network.specs.Plane.{Run}
+use Rattle.network.specs.Hanan.{hanan}
+use Rattle.network.specs.Graph.{meets, below, centres}
+use Rattle.network.proofs.Centres.{centres-first, centres-none}
+use Rattle.network.proofs.Leaves.{below-rises}
+use Rattle.job.specs.declared.Run.{Run as Read}
+use Rattle.job.specs.declared.Refusal.{Refusal}
+use Rattle.job.specs.declared.Refusal.the-variants.{NoStar}
+use Rattle.job.specs.Parse.{Parsed, accepted, refused, parse}
+use Rattle.job.specs.Written.{Bytes, WellFormed, bytesOf}
+use Rattle.job.proofs.Accepted.{accepted-iff}
+use Rattle.planner.specs.Call.{runsOf}
+use Rattle.planner.specs.Verdict.{centresOf, isStar, judged}
+use Rattle.planner.specs.Demands.{JobIn, IsStar}
+
+-- ---- the intersection graph is a star
+
+-- the test finds a centre exactly if there is one
+star-is : (runs : List Run) → isStar (centresOf runs) ≡ true → IsStar runs
+unfolding centresOf
+star-is runs h = go (centres (meets (hanan runs) runs) (below (length runs))) refl h
+  where
+    go : (l : List ℕ) → centres (meets (hanan runs) runs) (below (length runs)) ≡ l → isStar l ≡ true → IsStar runs
+    go [] e k = absurd (true≢false (sym k))
+    go (c ∷ rest) e k =
+        record { centre = c; is = centres-first (meets (hanan runs) runs) (below (length runs)) (below-rises (length runs)) c rest e .0 }
+
+is-star : (runs : List Run) → IsStar runs → isStar (centresOf runs) ≡ true
+unfolding centresOf
+is-star runs s = go (centres (meets (hanan runs) runs) (below (length runs))) refl
+  where
+    go : (l : List ℕ) → centres (meets (hanan runs) runs) (below (length runs)) ≡ l → isStar l ≡ true
+    go [] e = absurd (centres-none (meets (hanan runs) runs) (below (length runs)) e (s .centre) (s .is))
+    go (c ∷ rest) e = refl
+
+-- ---- the bytes
+
+-- a job that is accepted was read, and is a star
+pub judged-accepts : (p : Parsed) (number : ℕ) (runs : List Read) → judged p ≡ accepted number runs
+    → (p ≡ accepted number runs) × (isStar (centresOf (runsOf runs)) ≡ true)
+unfolding judged
+judged-accepts (accepted m rs) number runs e = go (isStar (centresOf (runsOf rs))) refl e
+  where
+    go : (b : Bool) → isStar (centresOf (runsOf rs)) ≡ b → cond b (accepted m rs) (refused NoStar) ≡ accepted number runs
+        → (accepted m rs ≡ accepted number runs) × (isStar (centresOf (runsOf runs)) ≡ true)
+    go true h k = let z : rs ≡ runs = cc in (k, subst (λ (l : List Read). isStar (centresOf (runsOf l)) ≡ true) z h)
+    go false h k = absurd (let z : _≡_ {A = ℕ} 0 1 = cc in omega arith)
+judged-accepts (refused x) number runs e = absurd (let z : _≡_ {A = ℕ} 0 1 = cc in omega arith)
+
+-- a star that was read is accepted
+accepts-judged : (p : Parsed) (number : ℕ) (runs : List Read) → p ≡ accepted number runs → isStar (centresOf (runsOf runs)) ≡ true
+    → judged p ≡ accepted number runs
+unfolding judged
+accepts-judged p number runs e h = rw (e, h)
+
+-- a job that is refused was refused by the reader, or it is no star
+pub judged-refuses : (p : Parsed) (x : Refusal) → judged p ≡ refused x
+    → (p ≡ refused x) ⊎ ((number : ℕ) × (runs : List Read) × (p ≡ accepted number runs) × (IsStar (runsOf runs) → ⊥) × (x ≡ NoStar))
+unfolding judged
+judged-refuses (accepted number runs) x e = go (isStar (centresOf (runsOf runs))) refl e
+  where
+    go : (b : Bool) → isStar (centresOf (runsOf runs)) ≡ b → cond b (accepted number runs) (refused NoStar) ≡ refused x
+        → (accepted number runs ≡ refused x) ⊎ ((n : ℕ) × (rs : List Read) × (accepted number runs ≡ accepted n rs) × (IsStar (runsOf rs) → ⊥) × (x ≡ NoStar))
+    go true h k = absurd (let z : _≡_ {A = ℕ} 0 1 = cc in omega arith)
+    go false h k = let z : x ≡ NoStar = cc in inr (number, runs, refl, λ s. true≢false (sym (is-star (runsOf runs) s) ∙ h), z)
+judged-refuses (refused y) x e = inl e
+
+module _ (job : List ℕ) (b : Bytes job) where
+  -- what is accepted is a well-formed job written down, and its runs form a star
+  pub job-star : (number : ℕ) (runs : List Read) → judged (parse job) ≡ accepted number runs
+      → WellFormed number runs × (job ≡ bytesOf number runs) × IsStar (runsOf runs)
+  job-star number runs e =
+      let (p, s) = judged-accepts (parse job) number runs e in
+      let (w, j) = accepted-iff job number runs b .0 p in
+      (w, j, star-is (runsOf runs) s)
+
+  -- a well-formed job is read as it is
+  pub job-read : (j : JobIn job) → parse job ≡ accepted (j .number) (j .runs)
+  job-read j = accepted-iff job (j .number) (j .runs) b .1 (j .well-formed, j .written)
+
+  -- and accepted if it is a star
+  pub star-job : (j : JobIn job) → IsStar (runsOf (j .runs)) → judged (parse job) ≡ accepted (j .number) (j .runs)
+  star-job j s = accepts-judged (parse job) (j .number) (j .runs) (job-read j) (is-star (runsOf (j .runs)) s)
+
+-- an accepted job has at most 32 runs
+pub accepted-few : (job : List ℕ) (number : ℕ) (runs : List Read) → Bytes job → judged (parse job) ≡ accepted number runs → length runs ≤ 32
+accepted-few job number runs b e = job-star job b number runs e .0 .most
+
+-- two jobs of the same bytes are the same
+pub same-job : (job : List ℕ) → Bytes job → (j : JobIn job) (number : ℕ) (runs : List Read) → parse job ≡ accepted number runs
+    → (number ≡ j .number) × (runs ≡ j .runs)
+same-job job b j number runs e = same (sym e ∙ job-read job b j)
+  where
+    same : accepted number runs ≡ accepted (j .number) (j .runs) → (number ≡ j .number) × (runs ≡ j .runs)
+    same q = (cc, cc)
