@@ -13,9 +13,11 @@ pub mod Steps
 pub mod Drawn
 pub mod Counting
 pub mod Corners
+pub mod Turns
 pub mod Turned
 pub mod Making
 pub mod Hanan
+pub mod Choices
 pub mod Meeting
 pub mod Centres
 pub mod Leaves
