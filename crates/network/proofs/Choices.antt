@@ -4,7 +4,7 @@
 -- ways to order so many steps along rows and so many along columns. So the corners of any routes are among the choices; and every choice is the
 -- corners of routes. If no choice is shorter than n and one is as long, then n is the length of every least plan, and every least plan is a choice
 -- of that length.
-use mathlib.Core.Path.{_≡_, refl, sym, ap, ap₂, _∙_, subst, subst₂}
+use mathlib.Core.Path.{_≡_, refl, sym, ap, _∙_, subst₂}
 use mathlib.Core.Logic.{_⊎_, inl, inr, ⊎-elim}
 use mathlib.Core.List.{List, [], _∷_, _++_, map, List·Memᴰ as Member, List·Memᴰ·head as here, List·Memᴰ·tail as there, List·Memᴰ·not-nil, List·Memᴰ·cases-cons, List·Memᴰ·eq-of-singleton, Memᴰ·append-left, Memᴰ·append-right, List·Memᴰ·append-cases, Memᴰ·cast}
 use mathlib.Core.Bool.{Bool, true, false, cond, _&&_, _||_}
@@ -17,7 +17,7 @@ use Rattle.network.specs.Lists.{any, every, All}
 use Rattle.network.specs.Plane.{Run}
 use Rattle.network.specs.Grid.{Grid}
 use Rattle.network.specs.Route.{Route, Listed, Manhattan, Routes, unionLength, Least}
-use Rattle.network.specs.Steps.{Dir, hor, ver, steps, Lane, forth, back, extent, at, Fits, Frame, Complete, drawn}
+use Rattle.network.specs.Steps.{Dir, hor, ver, steps, Lane, forth, back, extent, at, Fits, Frame, drawn}
 use Rattle.network.specs.Corners.{corners}
 use Rattle.network.specs.Boxes.{Placed}
 use Rattle.network.proofs.Tests.{and-split, or-split}
@@ -29,10 +29,12 @@ use Rattle.network.proofs.Turns.{to-turns}
 
 -- ---- elements of a mapped list
 
+-- an element goes to an element
 member-map : {A B : Type 0} (f : A → B) {a : A} {l : List A} → Member a l → Member (f a) (map f l)
 member-map f (here e) = here (ap f e)
 member-map f (there m) = there (member-map f m)
 
+-- and every element comes from one
 map-member : {A B : Type 0} (f : A → B) {b : B} (l : List A) → Member b (map f l) → (a : A) × Member a l × (b ≡ f a)
 map-member f [] m = absurd (List·Memᴰ·not-nil m)
 map-member {A} f {b} (c ∷ l) m = go (List·Memᴰ·cases-cons m) (map-member f l)
@@ -50,11 +52,13 @@ ways zero (suc b) = map (λ s. ver ∷ s) (ways zero b)
 ways (suc a) zero = map (λ s. hor ∷ s) (ways a zero)
 ways (suc a) (suc b) = map (λ s. hor ∷ s) (ways a (suc b)) ++ map (λ s. ver ∷ s) (ways (suc a) b)
 
+-- a way with one more step along the row in front
 way-hor : (a b : ℕ) {s : List Dir} → Member s (ways a b) → Member (hor ∷ s) (ways (suc a) b)
 unfolding ways
 way-hor a zero m = member-map (λ s. hor ∷ s) m
 way-hor a (suc b) m = Memᴰ·append-left (map (λ s. ver ∷ s) (ways (suc a) b)) (member-map (λ s. hor ∷ s) m)
 
+-- and with one more along the column
 way-ver : (a b : ℕ) {s : List Dir} → Member s (ways a b) → Member (ver ∷ s) (ways a (suc b))
 unfolding ways
 way-ver zero b m = member-map (λ s. ver ∷ s) m
@@ -72,6 +76,7 @@ record Has (a b : ℕ) (s : List Dir) : Type 0 where
   all-across : steps hor s ≡ a
   all-up : steps ver s ≡ b
 
+-- one more step along the row
 has-hor : (a b : ℕ) (l : List (List Dir)) → ((s : List Dir) → Member s l → Has a b s) → (s : List Dir) → Member s (map (λ s. hor ∷ s) l) → Has (suc a) b s
 unfolding steps
 has-hor a b l h s m =
@@ -79,6 +84,7 @@ has-hor a b l h s m =
     let q = h r k in
     rw e (record { all-across = ap suc (q .all-across); all-up = q .all-up })
 
+-- and one more along the column
 has-ver : (a b : ℕ) (l : List (List Dir)) → ((s : List Dir) → Member s l → Has a b s) → (s : List Dir) → Member s (map (λ s. ver ∷ s) l) → Has a (suc b) s
 unfolding steps
 has-ver a b l h s m =
@@ -86,6 +92,7 @@ has-ver a b l h s m =
     let q = h r k in
     rw e (record { all-across = q .all-across; all-up = ap suc (q .all-up) })
 
+-- so the ways are exactly the lists with these steps
 ways-sound : (a b : ℕ) (s : List Dir) → Member s (ways a b) → Has a b s
 unfolding steps ways
 ways-sound zero zero s m = rw (List·Memᴰ·eq-of-singleton m) (record { all-across = refl; all-up = refl })
@@ -102,6 +109,7 @@ unfoldable pub indexIn : List ℕ → ℕ → ℕ
 indexIn [] v = 0
 indexIn (a ∷ l) v = elim (eqb a v) [ true ↦ 0 | false ↦ suc (indexIn l v) ]
 
+-- a number that is listed stands at its index
 index-listed : (l : List ℕ) (v : ℕ) → Listed l v → (indexIn l v < length l) × (getD l (indexIn l v) 0 ≡ v)
 unfolding indexIn
 index-listed [] v p = absurd (omega (arith, p .1))
@@ -125,6 +133,7 @@ record LaneOf (l : List ℕ) (u v : ℕ) (X : Lane) : Type 0 where
   from : getD l (at X 0) 0 ≡ u
   upto : getD l (at X (extent X)) 0 ≡ v
 
+-- between two numbers of a list
 lane-of : (l : List ℕ) (u v : ℕ) → Listed l u → Listed l v → LaneOf l u v (laneOf (indexIn l u) (indexIn l v))
 unfolding laneOf
 lane-of l u v p q = go (leb (indexIn l u) (indexIn l v)) refl (index-listed l u p) (index-listed l v q)
@@ -149,6 +158,7 @@ columnsOf g r = laneOf (indexIn (g .columns) (r .first .x)) (indexIn (g .columns
 abbrev rowsOf : Grid → Run → Lane
 rowsOf g r = laneOf (indexIn (g .rows) (r .first .y)) (indexIn (g .rows) (r .second .y))
 
+-- a run that is placed on the grid has this frame
 frame-at : (g : Grid) (r : Run) → Placed g r → Frame g r (columnsOf g r) (rowsOf g r)
 frame-at g r p =
     let x = lane-of (g .columns) (r .first .x) (r .second .x) (p .first-vertex .column) (p .second-vertex .column) in
@@ -161,6 +171,7 @@ frame-at g r p =
 unfoldable pub routesOf : Grid → Run → List Route
 routesOf g r = map (λ s. corners (drawn g (columnsOf g r) (rowsOf g r) s)) (ways (extent (columnsOf g r)) (extent (rowsOf g r)))
 
+-- the corners of a route are among them
 route-chosen : (g : Grid) (r : Run) → Placed g r → (route : Route) → Manhattan g r route → Member (corners route) (routesOf g r)
 unfolding routesOf
 route-chosen g r p route m =
@@ -170,6 +181,7 @@ route-chosen g r p route m =
     Memᴰ·cast (sym (s .same))
     (member-map (λ s. corners (drawn g X Y s)) (subst₂ (λ a b. Member (s .list) (ways a b)) (s .complete .all-columns) (s .complete .all-rows) (ways-complete (s .list))))
 
+-- and each of them is a route
 chosen-route : (g : Grid) (r : Run) → Placed g r → (c : Route) → Member c (routesOf g r) → Manhattan g r c
 unfolding routesOf
 chosen-route g r p c m =
@@ -186,11 +198,13 @@ unfoldable pub inFront : List Route → List (List Route) → List (List Route)
 inFront [] ls = []
 inFront (c ∷ cs) ls = map (λ l. c ∷ l) ls ++ inFront cs ls
 
+-- a route in front of a list
 member-front : {c : Route} {cs : List Route} {l : List Route} {ls : List (List Route)} → Member c cs → Member l ls → Member (c ∷ l) (inFront cs ls)
 unfolding inFront
 member-front {c} {cs} {l} {ls} (here {x} {xs} e) m = Memᴰ·append-left (inFront xs ls) (Memᴰ·cast (ap (λ (d : Route). d ∷ l) e) (member-map (λ l. x ∷ l) m))
 member-front {c} {cs} {l} {ls} (there {x} {xs} k) m = Memᴰ·append-right (map (λ l. x ∷ l) ls) (member-front k m)
 
+-- and back
 front-member : {d : List Route} (cs : List Route) (ls : List (List Route)) → Member d (inFront cs ls)
     → (c : Route) × (l : List Route) × Member c cs × Member l ls × (d ≡ c ∷ l)
 unfolding inFront

@@ -37,6 +37,7 @@ start-on : (p q : Point) → Straight (p to q) → straightOn p p q ≡ true
 start-on p q (inl e) = true-line p p q (inl (record { here = refl; there = e }))
 start-on p q (inr e) = true-line p p q (inr (record { here = refl; there = e }))
 
+-- a point is the same as itself
 same-self : (p : Point) → samePoint p p ≡ true
 unfolding samePoint
 same-self p = rw (eq-eqb (p .x) (p .x) refl, eq-eqb (p .y) (p .y) refl)
@@ -77,10 +78,12 @@ on-through hor p o m z a b (inr t) = inr (record { here = t .here ∙ t .there; 
 on-through ver p o m z a b (inl t) = inl (record { here = t .here ∙ t .there; there = sym (a .0) ∙ b .0 })
 on-through ver p o m z a b (inr t) = absurd (a .1 (t .there))
 
+-- the first and the last of three points on one line are on it
 line-straight : (p o m : Point) → On-line p o m → Straight (p to m)
 line-straight p o m (inl t) = inl (t .here ∙ t .there)
 line-straight p o m (inr t) = inr (t .here ∙ t .there)
 
+-- the way to a point along d is straight
 along-straight : (d : Dir) (o m : Point) → Along d o m → Straight (o to m)
 along-straight hor o m a = inr (a .0)
 along-straight ver o m a = inl (a .0)
@@ -113,18 +116,22 @@ abbrev Reaches : Dir → (k i j a b : ℕ) → Type 0
 Reaches hor k i j a b = (i + k ≡ a) × (j ≡ b)
 Reaches ver k i j a b = (i ≡ a) × (j + k ≡ b)
 
+-- no steps stay where they are
 reaches-none : (d : Dir) (i j a b : ℕ) → Reaches d 0 i j a b → (i ≡ a) × (j ≡ b)
 reaches-none hor i j a b h = omega arith
 reaches-none ver i j a b h = omega arith
 
+-- after one step there are the others
 reaches-next : (d : Dir) (k i j a b : ℕ) → Reaches d (suc k) i j a b → Reaches d k (nextColumn d i) (nextRow d j) a b
 reaches-next hor k i j a b h = omega arith
 reaches-next ver k i j a b h = omega arith
 
+-- one step goes to the next column, or the next row
 reaches-one : (d : Dir) (i j : ℕ) → Reaches d 1 i j (nextColumn d i) (nextRow d j)
 reaches-one hor i j = omega arith
 reaches-one ver i j = omega arith
 
+-- steps go on, never back
 reaches-within : (d : Dir) (k i j a b : ℕ) → Reaches d k i j a b → (i ≤ a) × (j ≤ b)
 reaches-within hor k i j a b h = omega arith
 reaches-within ver k i j a b h = omega arith
@@ -138,6 +145,7 @@ record From (g : Grid) (X Y : Lane) (i j : ℕ) (l : List Point) : Type 0 where
       → cornersFrom p (spot g X Y i j) (drawFrom g X Y i j list) ≡ cornersFrom p (spot g X Y i j) l
 
 module _ (g : Grid) (X Y : Lane) (fx : Fits (g .columns) X) (fy : Fits (g .rows) Y) where
+  -- some steps along d go to a spot away along d
   reaches-along : (d : Dir) (k i j a b : ℕ) → Reaches d (suc k) i j a b → a ≤ extent X → b ≤ extent Y → Along d (spot g X Y i j) (spot g X Y a b)
   reaches-along hor k i j a b h m n =
       (ap (λ t. getD (g .rows) (at Y t) 0) (h .1), lane-apart (g .columns) (g .columns-rise) X fx i a (omega arith) m)
@@ -200,6 +208,7 @@ module _ (g : Grid) (X Y : Lane) (fx : Fits (g .columns) X) (fy : Fits (g .rows)
         let e′ = point-path c (ap (λ (o : Point). o .y) e ∙ d) in
         subst (λ (r : Point). From g X Y i j (r ∷ l)) e′ (front hor n i j (i + n) j l (refl, refl) o k (rest (i + n) j e′ o k))
 
+    -- the pieces of a walk from (i, j), one after the other
     steps-from : (i j : ℕ) (p : Point) (l : List Point) → spot g X Y i j ≡ p → i ≤ extent X → j ≤ extent Y
         → All (Vertex g) (p ∷ l) → All Straight (piecesFrom p l) → Monotone p l z → From g X Y i j l
     unfolding steps
@@ -219,13 +228,13 @@ drawn-pieces g X Y i j (hor ∷ s) = (inr refl, drawn-pieces g X Y (suc i) j s)
 drawn-pieces g X Y i j (ver ∷ s) = (inl refl, drawn-pieces g X Y i (suc j) s)
 
 -- a step list that passes the whole frame, with the corners of a route
-pub record Turned (g : Grid) (X Y : Lane) (route : Route) : Type 0 where
+pub record SameTurns (g : Grid) (X Y : Lane) (route : Route) : Type 0 where
   pub list : List Dir
   pub complete : Complete X Y list
   pub same : corners (drawn g X Y list) ≡ corners route
 
 -- every Manhattan route of a run has one in the run's frame
-pub to-turns : (g : Grid) (run : Run) (X Y : Lane) → Frame g run X Y → (route : Route) → Manhattan g run route → Turned g X Y route
+pub to-turns : (g : Grid) (run : Run) (X Y : Lane) → Frame g run X Y → (route : Route) → Manhattan g run route → SameTurns g X Y route
 to-turns g run X Y f [] m = absurd (m .starts)
 to-turns g run X Y f (p ∷ l) m =
     let e : spot g X Y 0 0 ≡ p = f .from ∙ sym (m .starts) in

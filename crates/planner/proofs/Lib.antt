@@ -4,7 +4,7 @@ pub mod First
 pub mod Demands
 pub mod Centred
 pub mod Fits
-pub mod Surveyed
+pub mod Examples
 pub mod Held
 pub mod Verdicts
 pub mod Distances

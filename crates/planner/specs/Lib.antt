@@ -4,7 +4,7 @@ pub mod Verdict
 pub mod Places
 pub mod Outcome
 pub mod Demands
-pub mod Surveyed
+pub mod Examples
 pub mod Held
 pub mod Stages
 pub mod Coordinates

@@ -1,0 +1,249 @@
+-- The surveyed examples hold of the definitions, and job 7 of the listing has one least plan: by tests that are computed over all the ways to lay a
+-- job's routes.
+--
+-- A job that passes the tests of the reader is well formed, so reading its bytes gives it back and the verdict is by its star. No way to lay its
+-- routes is shorter than the trench figure, and those of that length pass what else is given (pits; for job 7 the corners themselves): so do all
+-- least plans. The other figures follow from the corners and the runs.
+use mathlib.Core.Path.{_≡_, refl, ap, ap₂, _∙_, subst}
+use mathlib.Core.Bool.{Bool, true, false, cond, not, _&&_, false≢true}
+use mathlib.Core.List.{List, [], _∷_, _++_, map, flatten}
+use Prim.Native.Nat.{ℕ, _+_, _^_, _≤_, _<_}
+use native.Mathlib.Omega.{arith}
+use borrow.Author.Tests.{leb-true, ltb-true, eqb-true, not-true}
+use lib.Dec.{eqb, leb}
+use lib.ListN.{length, getD, drop}
+use Rattle.network.specs.Lists.{sum, every, All}
+use Rattle.network.specs.Plane.{Point, gap, distance}
+use Rattle.network.specs.Grid.{len, edges, spans, inside}
+use Rattle.network.specs.Distinct.{insert, distinct}
+use Rattle.network.specs.Hanan.{hanan}
+use Rattle.network.specs.Route.{Route, level, lies, unionLength}
+use Rattle.network.specs.Graph.{overlap, meets, degree, isCentre, centres}
+use Rattle.network.specs.Corners.{samePoint, straightOn, corners}
+use Rattle.network.proofs.Tests.{and-split}
+use Rattle.network.proofs.Corners.{point-true}
+use Rattle.network.proofs.Hanan.{hanan-all}
+use Rattle.network.proofs.Choices.{ways, indexIn, laneOf, routesOf, inFront, choices, LeastAre, leastTest, least-tested}
+use Rattle.network.specs.Pits.{unique, pitsOf}
+use Rattle.job.specs.declared.Run.{Run as Read}
+use Rattle.job.specs.declared.Refusal.the-variants.{NoStar}
+use Rattle.job.specs.Parse.{Parsed, accepted, refused, follows, coordinatesIn}
+use Rattle.job.specs.Written.{InRange, WellFormed, bytesOf}
+use Rattle.job.proofs.Rising.{Rising, none, more, rising-well-formed}
+use Rattle.job.proofs.Written.{written-read}
+use Rattle.plan.specs.declared.Head.{Head}
+use Rattle.plan.specs.Plan.{Entry, bookBytes, entriesFrom, headOf, meetsOf, drawnBytes, planBytes}
+use Rattle.planner.specs.Verdict.{centresOf, isStar, judged, verdict}
+use Rattle.planner.specs.Call.{runsOf, numbersOf, planHead, planEntries, Said, gives}
+use Rattle.planner.specs.Outcome.{Outcome}
+use Rattle.planner.specs.Examples.{Figures, refused-11, figures, figures-pits, Example, examples, HasVerdict, LeastOf, HoldsOf, Holds, job7Runs, job7Head, job7Entries, HasOnePlan}
+use Rattle.planner.proofs.Verdicts.{enough}
+
+-- ---- well formed, by a test
+
+-- each run passes the reader's tests, and the numbers rise from above `last`
+rises : (last : ℕ) → List Read → Bool
+rises last [] = true
+rises last (r ∷ runs) = follows last (r .number) && coordinatesIn r && rises (r .number) runs
+
+-- 1 to 32 of them
+wellTest : List Read → Bool
+wellTest runs = leb 1 (length runs) && leb (length runs) 32 && rises 0 runs
+
+-- a run that passes the reader's tests is in range and above the last
+coordinates-true : (last : ℕ) (r : Read) → follows last (r .number) ≡ true → coordinatesIn r ≡ true → (last < r .number) × InRange r
+coordinates-true last r f c =
+    let (g, up) = and-split (leb 1 (r .number) && leb (r .number) 9999) _ f in
+    let (least, most) = and-split (leb 1 (r .number)) _ g in
+    let (d, y2) = and-split (leb (r .x1) 2000000 && leb (r .y1) 2000000 && leb (r .x2) 2000000) _ c in
+    let (e, x2) = and-split (leb (r .x1) 2000000 && leb (r .y1) 2000000) _ d in
+    let (x1, y1) = and-split (leb (r .x1) 2000000) _ e in (
+      ltb-true last (r .number) up,
+      record {
+        least = leb-true 1 (r .number) least;
+        most = leb-true (r .number) 9999 most;
+        x1-in = leb-true (r .x1) 2000000 x1;
+        y1-in = leb-true (r .y1) 2000000 y1;
+        x2-in = leb-true (r .x2) 2000000 x2;
+        y2-in = leb-true (r .y2) 2000000 y2;
+      },
+    )
+
+-- and so are all runs that do
+rises-true : (last : ℕ) (runs : List Read) → rises last runs ≡ true → Rising last runs
+unfolding rises
+rises-true last [] h = none
+rises-true last (r ∷ runs) h =
+    let (a, rest) = and-split (follows last (r .number) && coordinatesIn r) _ h in
+    let (f, c) = and-split (follows last (r .number)) _ a in
+    let (up, range) = coordinates-true last r f c in
+    more up range (rises-true (r .number) runs rest)
+
+-- a job that passes the test is well formed, under any number
+well-true : (number : ℕ) (runs : List Read) → number < 2 ^ 32 → wellTest runs ≡ true → WellFormed number runs
+unfolding wellTest
+well-true number runs f h =
+    let (a, up) = and-split (leb 1 (length runs) && leb (length runs) 32) _ h in
+    let (some, most) = and-split (leb 1 (length runs)) _ a in
+    rising-well-formed number runs f (leb-true 1 (length runs) some) (leb-true (length runs) 32 most) (rises-true 0 runs up)
+
+-- the verdict on a well-formed job is by its star
+verdict-by : (number : ℕ) (runs : List Read) → WellFormed number runs → (b : Bool) → isStar (centresOf (runsOf runs)) ≡ b
+    → HasVerdict number runs (cond b (accepted number runs) (refused NoStar))
+unfolding judged
+verdict-by number runs w b e work out h k =
+    enough (bytesOf number runs) work out h k ∙ ap judged (written-read number runs w) ∙ ap (λ t. cond t (accepted number runs) (refused NoStar)) e
+
+-- ---- a row, by a test
+
+-- all least plans have this trench and pass the test, and the figures add up to the distances
+planTest : List Read → (trench saved : ℕ) → (List Route → Bool) → Bool
+planTest runs trench saved t =
+    isStar (centresOf (runsOf runs))
+    && (leastTest (hanan (runsOf runs)) (runsOf runs) trench t && eqb (trench + saved) (sum distance (runsOf runs)))
+
+-- the test of what a row says, and the whole test of a row
+testOf : List Read → Figures → Bool
+testOf runs refused-11 = not (isStar (centresOf (runsOf runs)))
+testOf runs (figures trench saved) = planTest runs trench saved (λ c. true)
+testOf runs (figures-pits trench saved pits) = planTest runs trench saved (λ c. eqb (pitsOf c) pits)
+
+test : Example → Bool
+test e = wellTest (e .runs) && testOf (e .runs) (e .outcome)
+
+-- what the test of a plan says
+record Tested (runs : List Read) (trench saved : ℕ) (t : List Route → Bool) : Type 0 where
+  star : isStar (centresOf (runsOf runs)) ≡ true
+  least : LeastAre (hanan (runsOf runs)) (runsOf runs) trench t
+  total : trench + saved ≡ sum distance (runsOf runs)
+
+-- a job that passes the test has these plans
+plan-true : (runs : List Read) (trench saved : ℕ) (t : List Route → Bool) → planTest runs trench saved t ≡ true → Tested runs trench saved t
+unfolding planTest
+plan-true runs trench saved t h =
+    let (a, k) = and-split (isStar (centresOf (runsOf runs))) _ h in
+    let (b, c) = and-split (leastTest (hanan (runsOf runs)) (runsOf runs) trench t) _ k in
+    record {
+      star = a;
+      least = least-tested (hanan (runsOf runs)) (runsOf runs) (hanan-all (runsOf runs)) trench t b;
+      total = eqb-true (trench + saved) (sum distance (runsOf runs)) c;
+    }
+
+-- a row that passes its test holds
+sound : (runs : List Read) (o : Figures) → wellTest runs ≡ true → testOf runs o ≡ true → HoldsOf runs o
+unfolding testOf
+sound runs refused-11 w h = λ number f. verdict-by number runs (well-true number runs f w) false (not-true (isStar (centresOf (runsOf runs))) h)
+sound runs (figures trench saved) w h =
+    let p = plan-true runs trench saved (λ c. true) h in
+    record {
+      accepts = λ number f. verdict-by number runs (well-true number runs f w) true (p .star);
+      some = p .least .some;
+      says = λ number routes l. (p .least .union-is routes l, omega (arith, p .least .union-is routes l, p .total));
+    }
+sound runs (figures-pits trench saved pits) w h =
+    let p = plan-true runs trench saved (λ c. eqb (pitsOf c) pits) h in
+    record {
+      accepts = λ number f. verdict-by number runs (well-true number runs f w) true (p .star);
+      some = p .least .some;
+      says = λ number routes l. (
+        p .least .union-is routes l,
+        omega (arith, p .least .union-is routes l, p .total),
+        eqb-true (pitsOf (map corners routes)) pits (p .least .passes routes l),
+      );
+    }
+
+-- and a table whose rows all pass
+all-sound : (l : List Example) → every test l ≡ true → All Holds l
+unfolding test
+all-sound [] h = tt
+all-sound (e ∷ l) h =
+    let (a, k) = and-split _ _ h in
+    let (w, t) = and-split _ _ a in
+    (sound (e .runs) (e .outcome) w t, all-sound l k)
+
+-- ---- the theorem
+
+-- every row of the table holds
+pub examples-hold : All Holds examples
+unfolding test testOf wellTest rises planTest leastTest choices inFront routesOf ways laneOf indexIn samePoint straightOn unionLength lies level len
+    centresOf centres isCentre meets overlap edges inside spans distinct insert gap distance pitsOf unique flatten
+examples-hold = all-sound examples refl
+
+-- ---- job 7 of the listing
+
+-- two lists of points are the same, and two lists of routes
+samePoints : List Point → List Point → Bool
+samePoints [] [] = true
+samePoints [] (q ∷ k) = false
+samePoints (p ∷ l) [] = false
+samePoints (p ∷ l) (q ∷ k) = samePoint p q && samePoints l k
+
+sameRoutes : List Route → List Route → Bool
+sameRoutes [] [] = true
+sameRoutes [] (q ∷ k) = false
+sameRoutes (p ∷ l) [] = false
+sameRoutes (p ∷ l) (q ∷ k) = samePoints p q && sameRoutes l k
+
+-- lists that the tests find the same are the same
+points-true : (l k : List Point) → samePoints l k ≡ true → l ≡ k
+unfolding samePoints
+points-true [] [] h = refl
+points-true [] (q ∷ k) h = absurd (false≢true h)
+points-true (p ∷ l) [] h = absurd (false≢true h)
+points-true (p ∷ l) (q ∷ k) h =
+    let (a, b) = and-split (samePoint p q) (samePoints l k) h in
+    ap₂ (λ (o : Point) t. o ∷ t) (point-true p q a) (points-true l k b)
+
+-- and so are lists of routes
+routes-true : (l k : List Route) → sameRoutes l k ≡ true → l ≡ k
+unfolding sameRoutes
+routes-true [] [] h = refl
+routes-true [] (q ∷ k) h = absurd (false≢true h)
+routes-true (p ∷ l) [] h = absurd (false≢true h)
+routes-true (p ∷ l) (q ∷ k) h =
+    let (a, b) = and-split (samePoints p q) (sameRoutes l k) h in
+    ap₂ (λ (o : Route) t. o ∷ t) (points-true p q a) (routes-true l k b)
+
+-- the corners that a plan's entries have
+abbrev cornersIn : List Entry → List Route
+cornersIn es = map (λ e. e .corners) es
+
+-- If all least plans have the given corners, and the given head and entries are those of these corners, then the job has one plan.
+one-plan : (number : ℕ) (runs : List Read) (head : Head) (entries : List Entry) → number < 2 ^ 32 → wellTest runs ≡ true
+    → planTest runs (head .trench) (head .saved) (λ c. sameRoutes c (cornersIn entries)) ≡ true
+    → headOf number (numbersOf runs) (runsOf runs) (cornersIn entries) ≡ head
+    → entriesFrom (λ i. getD (numbersOf runs) i 0) (meetsOf (runsOf runs)) 0 (cornersIn entries) ≡ entries
+    → HasOnePlan number runs head entries
+unfolding planBytes drawnBytes
+one-plan number runs head entries f w h d e =
+    let p = plan-true runs (head .trench) (head .saved) (λ c. sameRoutes c (cornersIn entries)) h in
+    let c : (routes : List Route) → LeastOf runs routes → map corners routes ≡ cornersIn entries
+    = λ routes l. routes-true (map corners routes) (cornersIn entries) (p .least .passes routes l) in
+    let a : (routes : List Route) → LeastOf runs routes → planHead number runs routes ≡ head
+    = λ routes l. ap (headOf number (numbersOf runs) (runsOf runs)) (c routes l) ∙ d in
+    let b : (routes : List Route) → LeastOf runs routes → planEntries runs routes ≡ entries
+    = λ routes l. ap (entriesFrom (λ i. getD (numbersOf runs) i 0) (meetsOf (runsOf runs)) 0) (c routes l) ∙ e in
+    record {
+      accepts = verdict-by number runs (well-true number runs f w) true (p .star);
+      some = p .least .some;
+      corners-are = c;
+      head-is = a;
+      entries-are = b;
+      plan-is = λ routes l. ap₂ bookBytes (a routes l) (b routes l);
+    }
+
+-- job 7 has one least plan, and this is its head and what it says of its runs
+pub job-7 : HasOnePlan 7 job7Runs job7Head job7Entries
+unfolding wellTest rises planTest leastTest choices inFront routesOf ways laneOf indexIn samePoint straightOn unionLength lies level len sameRoutes samePoints
+    centresOf centres isCentre meets degree overlap edges inside spans distinct insert gap distance pitsOf unique flatten
+job-7 = one-plan 7 job7Runs job7Head job7Entries (omega arith) refl refl refl refl
+
+-- a call with words and bytes enough for a job with one plan gives that plan's length and leaves its bytes
+pub one-plan-call : (number : ℕ) (runs : List Read) (head : Head) (entries : List Entry) → HasOnePlan number runs head entries
+    → (words : ℕ) (out : List ℕ) (s : Said) (out′ : List ℕ) → 16384 ≤ words → 40960 ≤ length out
+    → Outcome (verdict (bytesOf number runs) words (length out)) out s out′
+    → (s ≡ gives (length (bookBytes head entries))) × (out′ ≡ bookBytes head entries ++ drop (length (bookBytes head entries)) out)
+one-plan-call number runs head entries one words out s out′ h k call =
+    let p = subst (λ (v : Parsed). Outcome v out s out′) (one .accepts words (length out) h k) call in
+    let e = one .plan-is (p .routes) (p .least) in
+    (p .says ∙ ap (λ l. gives (length l)) e, p .plan ∙ ap (λ l. l ++ drop (length l) out) e)
