@@ -16,7 +16,7 @@ use Rattle.job.specs.declared.Refusal.{Refusal}
 use Rattle.job.specs.declared.Step.{Step}
 use Rattle.job.specs.declared.Step.the-variants.{Next, End, Refuse}
 use Rattle.job.specs.Fields.{word4, biasedOf, wordOf}
-use Rattle.job.specs.Records.{runOf, recordOf}
+use Rattle.job.specs.Records.{runBody, recordOf}
 use Rattle.job.specs.Parse.{Parsed, accepted, refused, stepOf, withFirst, proceed, readFrom, firstBy, parse}
 use Rattle.job.specs.Written.{bytes2, bytes4, runBytes, runsBytes, bytesOf, Bytes, WellFormed}
 use Rattle.job.proofs.Signed.{word-of-biased}
@@ -52,7 +52,7 @@ run-bytes (kind ∷ b) r h e =
     let says = rw e at (record-says (kind ∷ b)) in
     let l = says .1 in
     let hb : Bytes b = λ i. h (suc i) in
-    let q = runOf b in
+    let q = runBody b in
     ap₂ {C = List ℕ} (λ k t. k ∷ t) (says .0)
     (bytes2-word b 0 hb (omega arith)
     ∙ ap (λ t. bytes2 (q .number) ++ t)
@@ -172,7 +172,7 @@ runs-length [] = refl
 runs-length (r ∷ runs) = omega (arith, runs-length runs)
 
 -- a written job has 8 bytes, and 19 for each run
-pub written-length : (number : ℕ) (runs : List Run) → length (bytesOf number runs) ≡ 8 + 19 * length runs
+written-length : (number : ℕ) (runs : List Run) → length (bytesOf number runs) ≡ 8 + 19 * length runs
 unfolding bytesOf
 written-length number runs = omega (arith, length-append (runsBytes runs) (0x5A ∷ bytes2 (length runs)), runs-length runs)
 

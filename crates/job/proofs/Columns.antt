@@ -4,7 +4,7 @@ use Prim.Native.Nat.{ℕ, zero, suc, _+_, _-_, _≤_, _<_}
 use mathlib.Core.Path.{_≡_, refl, sym, ap, ap₂, _∙_}
 use mathlib.Core.List.{List, [], _∷_, _++_, map, map-append}
 use native.Mathlib.Omega.{arith}
-use lib.ListN.{length, getD, set, replicate, length-append, length-map, length-replicate, List·getD-append}
+use lib.ListN.{length, getD, set, replicate, length-append, length-map, List·getD-append}
 use lib.Seq.{set-at, append-snoc, getD-append-add}
 use Rattle.job.specs.declared.Run.{Run}
 use Rattle.job.specs.declared.Job.{Job}
@@ -35,10 +35,6 @@ module _ (f : Run → ℕ) where
   map-entry [] k h = absurd (omega arith)
   map-entry (r ∷ runs) zero h = refl
   map-entry (r ∷ runs) (suc k) h = map-entry runs k (omega arith)
-
-  -- a column of at most 32 runs has 32 entries
-  pub column-length : (runs : List Run) → length runs ≤ 32 → length (column f runs) ≡ 32
-  column-length runs h = simp (length-append, length-map, length-replicate) (omega arith)
 
   -- the entry of run k is its field
   pub column-entry : (runs : List Run) (k : ℕ) → k < length runs → getD (column f runs) k 0 ≡ f (getD runs k noRun)

@@ -15,7 +15,8 @@ use Rattle.job.specs.declared.Record.{Record}
 use Rattle.job.specs.declared.Record.the-variants as rec
 use Rattle.job.specs.Fields.{word2, word4}
 use Rattle.job.specs.Applies.{Kind, head, run, end, byteOf, sizeOf, CutAt, inside, before-end, UnknownAt}
-use Rattle.job.specs.Records.{runOf, decoded, recordOf, NotRun, NotHead}
+use Rattle.job.specs.Records.{runBody, decoded, recordOf}
+use Rattle.job.specs.Branches.{NotRun, NotHead}
 
 -- what holds of each side of a test, with what the test says there, holds of the side that it picks
 pub by-test : {A : Type 0} (P : A → Type 0) (b : Bool) {x y : A} → (b ≡ true → P x) → (b ≡ false → P y) → P (cond b x y)
@@ -25,7 +26,7 @@ by-test P false f g = g refl
 -- what a record says of the bytes that it was decoded from: a whole one, that its body is long enough and the fields are where they are
 abbrev pub Says : List ℕ → Record → Type 0
 Says bytes (rec.Head number) = (getD bytes 0 0 ≡ 0x48) × (4 ≤ length (drop 1 bytes)) × (number ≡ word4 (drop 1 bytes) 0)
-Says bytes (rec.Run r) = (getD bytes 0 0 ≡ 0x52) × (18 ≤ length (drop 1 bytes)) × (r ≡ runOf (drop 1 bytes))
+Says bytes (rec.Run r) = (getD bytes 0 0 ≡ 0x52) × (18 ≤ length (drop 1 bytes)) × (r ≡ runBody (drop 1 bytes))
 Says bytes (rec.End count) = (getD bytes 0 0 ≡ 0x5A) × (2 ≤ length (drop 1 bytes)) × (count ≡ word2 (drop 1 bytes) 0)
 Says bytes rec.Unknown = UnknownAt bytes 0
 Says bytes rec.Cut = CutAt bytes 0

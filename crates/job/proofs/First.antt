@@ -28,30 +28,30 @@ use Rattle.job.proofs.Order.{sooner-total}
 -- ---- the whole reading
 
 -- what a reading says: nothing applies, or the first that applies
-abbrev Answered : List ℕ → Parsed → Type 0
-Answered s (accepted number runs) = (x : Refusal) → AppliesIn s x → ⊥
-Answered s (refused x) = FirstOf (AppliesIn s) x
+abbrev Said : List ℕ → Parsed → Type 0
+Said s (accepted number runs) = (x : Refusal) → AppliesIn s x → ⊥
+Said s (refused x) = FirstOf (AppliesIn s) x
 
 -- a run in front changes nothing of that
-with-first-answered : (s : List ℕ) (r : Run) (q : Parsed) → Answered s q → Answered s (withFirst r q)
-with-first-answered s r (accepted number runs) a = a
-with-first-answered s r (refused x) a = a
+with-first-said : (s : List ℕ) (r : Run) (q : Parsed) → Said s q → Said s (withFirst r q)
+with-first-said s r (accepted number runs) a = a
+with-first-said s r (refused x) a = a
 
 -- what a step makes of the later records
-proceed-answered : (s : List ℕ) (number n p : ℕ) (later : Run → Parsed) → ((r : Run) → Passed s (suc n) (p + 19) (r .number) → Answered s (later r))
-    → (t : Step) → Told s n p t → Answered s (proceed number later t)
-proceed-answered s number n p later f (Next r) a = with-first-answered s r (later r) (f r a)
-proceed-answered s number n p later f End a = a
-proceed-answered s number n p later f (Refuse x) a = a
+proceed-said : (s : List ℕ) (number n p : ℕ) (later : Run → Parsed) → ((r : Run) → Passed s (suc n) (p + 19) (r .number) → Said s (later r))
+    → (t : Step) → Told s n p t → Said s (proceed number later t)
+proceed-said s number n p later f (Next r) a = with-first-said s r (later r) (f r a)
+proceed-said s number n p later f End a = a
+proceed-said s number n p later f (Refuse x) a = a
 
 -- the reading from the record behind n runs on
-read-answered : (records : ℕ) (s : List ℕ) (number n p last : ℕ) → records + n ≡ 33 → Passed s n p last → Answered s (readFrom records number p n last (drop p s))
+read-said : (records : ℕ) (s : List ℕ) (number n p last : ℕ) → records + n ≡ 33 → Passed s n p last → Said s (readFrom records number p n last (drop p s))
 unfolding readFrom
-read-answered zero s number n p last e h = absurd (omega (arith, h .most))
-read-answered (suc records) s number n p last e h =
-    proceed-answered s number n p (λ r. readFrom records number (p + 19) (suc n) (r .number) (drop 19 (drop p s)))
-    (λ r a. subst (λ (b : List ℕ). Answered s (readFrom records number (p + 19) (suc n) (r .number) b)) (sym (drop-drop 19 p s))
-    (read-answered records s number (suc n) (p + 19) (r .number) (omega arith) a))
+read-said zero s number n p last e h = absurd (omega (arith, h .most))
+read-said (suc records) s number n p last e h =
+    proceed-said s number n p (λ r. readFrom records number (p + 19) (suc n) (r .number) (drop 19 (drop p s)))
+    (λ r a. subst (λ (b : List ℕ). Said s (readFrom records number (p + 19) (suc n) (r .number) b)) (sym (drop-drop 19 p s))
+    (read-said records s number (suc n) (p + 19) (r .number) (omega arith) a))
     (stepOf p n last (drop p s))
     (step-told s n p last h (recordOf (drop p s)) (there s p (behind-within s n p (h .behind))))
 
@@ -102,31 +102,31 @@ module _ (s : List ℕ) where
       }
 
   -- the reading by the first record
-  first-answered : (g : Record) → There s 0 g → Answered s (firstBy g (drop 5 s))
+  first-said : (g : Record) → There s 0 g → Said s (firstBy g (drop 5 s))
   unfolding firstBy
-  first-answered rec.Unknown u = first-first (UnknownKind 0) refl (inl refl, u) (least-four s 0)
-  first-answered rec.Cut c = first-first (Cut 0) refl (inl refl, c) (least-three s 0 c)
-  first-answered (rec.Head number) w = read-answered 33 s number 0 5 0 refl (passed-none w)
-  first-answered (rec.Run r) (w, e) = other-first run (λ d. omega arith) w
-  first-answered (rec.End count) (w, e) = other-first end (λ d. omega arith) w
+  first-said rec.Unknown u = first-first (UnknownKind 0) refl (inl refl, u) (least-four s 0)
+  first-said rec.Cut c = first-first (Cut 0) refl (inl refl, c) (least-three s 0 c)
+  first-said (rec.Head number) w = read-said 33 s number 0 5 0 refl (passed-none w)
+  first-said (rec.Run r) (w, e) = other-first run (λ d. omega arith) w
+  first-said (rec.End count) (w, e) = other-first end (λ d. omega arith) w
 
   -- reading accepts where nothing applies, and refuses with the first that applies
-  parse-answered : Answered s (parse s)
+  parse-said : Said s (parse s)
   unfolding parse
-  parse-answered = first-answered (recordOf s) (there s 0 (omega arith))
+  parse-said = first-said (recordOf s) (there s 0 (omega arith))
 
 -- a job is refused exactly with the first refusal that applies
 pub first-applies : (s : List ℕ) (x : Refusal) → (parse s ≡ refused x) ↔ FirstOf (AppliesIn s) x
-first-applies s x = (λ e. rw e at (parse-answered s), λ f. go f (parse s) (parse-answered s) refl)
+first-applies s x = (λ e. rw e at (parse-said s), λ f. go f (parse s) (parse-said s) refl)
   where
-    go : FirstOf (AppliesIn s) x → (q : Parsed) → Answered s q → parse s ≡ q → parse s ≡ refused x
+    go : FirstOf (AppliesIn s) x → (q : Parsed) → Said s q → parse s ≡ q → parse s ≡ refused x
     go f (accepted number runs) a e = absurd (a x (f .applies))
     go f (refused y) a e = e ∙ ap refused (sooner-total y x (f .first y (a .applies)) (a .first x (f .applies)))
 
 -- a job is accepted exactly if none applies
 pub none-applies : (s : List ℕ) → ((number : ℕ) × (runs : List Run) × (parse s ≡ accepted number runs)) ↔ ((x : Refusal) → AppliesIn s x → ⊥)
-none-applies s = (λ (number, runs, e). rw e at (parse-answered s), λ f. go f (parse s) (parse-answered s) refl)
+none-applies s = (λ (number, runs, e). rw e at (parse-said s), λ f. go f (parse s) (parse-said s) refl)
   where
-    go : ((x : Refusal) → AppliesIn s x → ⊥) → (q : Parsed) → Answered s q → parse s ≡ q → (number : ℕ) × (runs : List Run) × (parse s ≡ accepted number runs)
+    go : ((x : Refusal) → AppliesIn s x → ⊥) → (q : Parsed) → Said s q → parse s ≡ q → (number : ℕ) × (runs : List Run) × (parse s ≡ accepted number runs)
     go f (accepted number runs) a e = (number, runs, e)
     go f (refused x) a e = absurd (f x (a .applies))

@@ -16,9 +16,8 @@ use Rattle.job.specs.declared.Run.{Run}
 use Rattle.job.specs.declared.Record.{Record}
 use Rattle.job.specs.declared.Record.the-variants as rec
 use Rattle.job.specs.Fields.{word2, word4, biasedOf}
-use Rattle.job.specs.Records.{runOf, decoded, recordOf}
+use Rattle.job.specs.Records.{runBody, decoded, recordOf}
 use Rattle.job.specs.Parse.{endStep, stepBy, stepOf, proceed, readFrom, firstBy, parse}
-use Rattle.job.specs.Reading.{readingBy, readingOf}
 
 -- the rest of a prefix is a prefix of the rest
 drop-take : {A : Type 0} (k m : ℕ) (l : List A) → drop k (take m l) ≡ take (m - k) (drop k l)
@@ -38,7 +37,7 @@ module _ (m : ℕ) (b : List ℕ) where
 
   module _ (enough : 18 ≤ m) (longer : m ≤ length b) where
     -- so is a whole run
-    run-take : runOf (take m b) ≡ runOf b
+    run-take : runBody (take m b) ≡ runBody b
     run-take = λ i. record {
       number = word2-take 0 (omega arith) i;
       x1 = biasedOf (word4-take 2 (omega arith) i);
@@ -121,8 +120,3 @@ unfolding parse
 parse-prefix m s enough =
     ap₂ firstBy (by-length recordOf m s (λ longer. record-take m s (omega arith) longer)) (drop-take 5 m s)
     ∙ first-take (recordOf s) (m - 5) (drop 5 s) (omega arith)
-
--- nor what is answered
-pub reading-prefix : (m : ℕ) (s : List ℕ) → 632 ≤ m → readingOf (take m s) ≡ readingOf s
-unfolding readingOf
-reading-prefix m s enough = ap readingBy (parse-prefix m s enough)

@@ -9,7 +9,6 @@ use lib.ListN.{length, drop, length-append, length-drop}
 use lib.Seq.{drop-drop}
 use Rattle.job.specs.declared.Run.{Run}
 use Rattle.job.specs.declared.Job.{Job}
-use Rattle.job.specs.declared.Reading.{Reading}
 use Rattle.job.specs.declared.Answer.the-variants.{Accepted, Refused}
 use Rattle.job.specs.declared.Refusal.{Refusal}
 use Rattle.job.specs.declared.Record.{Record}
@@ -17,7 +16,7 @@ use Rattle.job.specs.declared.Record.the-variants as rec
 use Rattle.job.specs.declared.Step.the-variants.{Next, End, Refuse}
 use Rattle.job.specs.Records.{recordOf}
 use Rattle.job.specs.Parse.{Parsed, accepted, refused, stepOf, withFirst, proceed, readFrom, firstBy, parse}
-use Rattle.job.specs.Reading.{jobOf, readingOf}
+use Rattle.job.specs.Reading.{jobOf, numberSaid, placeSaid, jobSaid, Reads}
 use Rattle.job.specs.Written.{noRun}
 use Rattle.job.proofs.Decoded.{record-says}
 use Rattle.job.proofs.Columns.{withRun, job-more}
@@ -69,10 +68,14 @@ pub record SoFar (s : List ℕ) (number : ℕ) (found : Job) (at n last : ℕ) :
   pub runs : found ≡ jobOf number (runsBefore s n)
   pub rest : withAll (runsBefore s n) (readFrom (33 - n) number at n last (drop at s)) ≡ parse s
 
+-- the reading of a refusal
+refuses : (s : List ℕ) (x : Refusal) → refused x ≡ parse s → Reads s (record { answer = Refused x; job = jobOf 0 [] })
+refuses s x e = record { number = ap numberSaid e; place = ap placeSaid e; job = ap jobSaid e }
+
 -- a first record that is no head
-pub first-refused : (s : List ℕ) (x : Refusal) → refused x ≡ firstBy (recordOf s) (drop 5 s) → _≡_ {A = Reading} (record { answer = Refused x; job = jobOf 0 [] }) (readingOf s)
-unfolding readingOf parse
-first-refused s x e = rw (← e)
+pub first-refused : (s : List ℕ) (x : Refusal) → refused x ≡ firstBy (recordOf s) (drop 5 s) → Reads s (record { answer = Refused x; job = jobOf 0 [] })
+unfolding parse
+first-refused s x e = refuses s x e
 
 -- after the head
 pub so-far-none : (s : List ℕ) (number : ℕ) (found : Job) → recordOf s ≡ rec.Head number → found ≡ jobOf number [] → SoFar s number found 5 0 0
@@ -119,13 +122,11 @@ module _ (s : List ℕ) (number : ℕ) (found : Job) (at n last : ℕ) (h : SoFa
       })
 
   -- at the end
-  pub so-far-end : stepOf at n last (drop at s) ≡ End → _≡_ {A = Reading} (record { answer = Accepted; job = found }) (readingOf s)
-  unfolding readingOf
+  pub so-far-end : stepOf at n last (drop at s) ≡ End → Reads s (record { answer = Accepted; job = found })
   so-far-end e =
       let whole = sym (with-accepted (runsBefore s n) number) ∙ (rw e at step-whole) in
-      rw (← whole) (λ i. record { answer = Accepted; job = h .runs i })
+      record { number = ap numberSaid whole; place = ap placeSaid whole; job = h .runs ∙ ap jobSaid whole }
 
   -- at a refusal
-  pub so-far-refused : (x : Refusal) → stepOf at n last (drop at s) ≡ Refuse x → _≡_ {A = Reading} (record { answer = Refused x; job = jobOf 0 [] }) (readingOf s)
-  unfolding readingOf
-  so-far-refused x e = let whole = sym (with-refused (runsBefore s n) x) ∙ (rw e at step-whole) in rw (← whole)
+  pub so-far-refused : (x : Refusal) → stepOf at n last (drop at s) ≡ Refuse x → Reads s (record { answer = Refused x; job = jobOf 0 [] })
+  so-far-refused x e = refuses s x (sym (with-refused (runsBefore s n) x) ∙ (rw e at step-whole))

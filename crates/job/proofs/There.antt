@@ -13,7 +13,7 @@ use Rattle.job.specs.declared.Record.{Record}
 use Rattle.job.specs.declared.Record.the-variants as rec
 use Rattle.job.specs.Fields.{word2, word4, biasedOf}
 use Rattle.job.specs.Applies.{Kind, head, run, end, byteOf, sizeOf, Whole, Behind, numberAt, countAt, coordinateAt, CutAt, inside, before-end, UnknownAt}
-use Rattle.job.specs.Records.{runOf, recordOf}
+use Rattle.job.specs.Records.{runBody, recordOf}
 use Rattle.job.proofs.Decoded.{Says, record-says}
 
 -- the run whose record stands at a place
@@ -56,7 +56,7 @@ module _ (s : List ℕ) (p : ℕ) where
       + 16777216 * byte-there (i + 3) (q + 3) (omega arith) j
 
   -- a run in the body
-  run-there : runOf (drop 1 (drop p s)) ≡ runAt s p
+  run-there : runBody (drop 1 (drop p s)) ≡ runAt s p
   run-there = λ j. record {
     number = word2-there 0 (p + 1) (omega arith) j;
     x1 = biasedOf (word4-there 2 (p + 3 + 4 * 0) (omega arith) j);

@@ -1,8 +1,9 @@
 pub mod Fields
 pub mod Refusal
+pub mod Written
 pub mod Applies
 pub mod Order
 pub mod Records
 pub mod Parse
+pub mod Branches
 pub mod Reading
-pub mod Written

@@ -1,5 +1,6 @@
--- Reading a job: one head, then the runs, then one end, and no byte after it. The first refusal that applies is given: records front to
--- back, and within a record 4, 3, 5, 9, 7, 8, 6, 10 (document 01, "Job book" and "What a call says and leaves").
+-- Reading a job, as the contracts cite it: one head, then the runs, then one end, and no byte after it; the tests of a record are made in the
+-- order 4, 3, 5, 9, 7, 8, 6, 10. What it comes to is said without reading in `Written` (by `accepted-iff`), `Applies` and `Order` (by
+-- `first-applies` and `none-applies`).
 -- Assumes nothing.
 use Prim.Native.Nat.{ℕ, zero, suc, _+_}
 use mathlib.Core.List.{List, [], _∷_}

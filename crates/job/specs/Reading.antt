@@ -1,13 +1,15 @@
--- What reading answers: the job as arrays of 32 entries, one array for each field of a run; for a refusal the job of number 0 with no run.
+-- What the reader's contracts speak of; nothing that a demand mentions. Reading answers with document 01's number and place, and hands the job
+-- on as arrays of 32 entries, one array for each field of a run.
 -- Assumes nothing.
 use Prim.Native.Nat.{ℕ, _-_}
+use mathlib.Core.Path.{_≡_}
 use mathlib.Core.List.{List, [], map, _++_}
 use lib.ListN.{length, replicate}
+use Rattle.job.specs.Refusal.{refusalNumber, refusalPlace, answerNumber, answerPlace}
 use Rattle.job.specs.Parse.{Parsed, accepted, refused, parse}
 use Rattle.job.specs.declared.Run.{Run}
 use Rattle.job.specs.declared.Job.{Job}
 use Rattle.job.specs.declared.Reading.{Reading}
-use Rattle.job.specs.declared.Answer.the-variants.{Accepted, Refused}
 
 -- a field of every run, and 0 after the last
 abbrev pub column : (Run → ℕ) → List Run → List ℕ
@@ -26,11 +28,21 @@ jobOf number runs =
       y2 = column (λ r. r .y2) runs;
     }
 
--- the answer and the job beside it
-abbrev pub readingBy : Parsed → Reading
-readingBy (accepted number runs) = record { answer = Accepted; job = jobOf number runs }
-readingBy (refused x) = record { answer = Refused x; job = jobOf 0 [] }
+-- what the bytes say: the number and the place, 0 and 0 where they are accepted, and the job, for a refusal that of number 0 with no run
+abbrev pub numberSaid : Parsed → ℕ
+numberSaid (accepted number runs) = 0
+numberSaid (refused x) = refusalNumber x
 
--- what reading these bytes answers
-unfoldable pub readingOf : List ℕ → Reading
-readingOf s = readingBy (parse s)
+abbrev pub placeSaid : Parsed → ℕ
+placeSaid (accepted number runs) = 0
+placeSaid (refused x) = refusalPlace x
+
+abbrev pub jobSaid : Parsed → Job
+jobSaid (accepted number runs) = jobOf number runs
+jobSaid (refused x) = jobOf 0 []
+
+-- reading answers with the number, the place and the job that the bytes say
+pub record Reads (s : List ℕ) (r : Reading) : Type 0 where
+  pub number : answerNumber (r .answer) ≡ numberSaid (parse s)
+  pub place : answerPlace (r .answer) ≡ placeSaid (parse s)
+  pub job : r .job ≡ jobSaid (parse s)

@@ -11,8 +11,8 @@ use Rattle.job.specs.declared.Record.{Record}
 use Rattle.job.specs.declared.Record.the-variants as rec
 
 -- the run in the 18 bytes of a body
-abbrev pub runOf : List ℕ → Run
-runOf b =
+abbrev pub runBody : List ℕ → Run
+runBody b =
     record {
       number = word2 b 0;
       x1 = biasedOf (word4 b 2);
@@ -29,25 +29,10 @@ sized size bytes r = cond (ltb (length bytes) size) rec.Cut r
 unfoldable pub decoded : (kind : ℕ) → List ℕ → Record
 decoded kind bytes =
     cond (eqb kind 0x48) (sized 4 bytes (rec.Head (word4 bytes 0)))
-    (cond (eqb kind 0x52) (sized 18 bytes (rec.Run (runOf bytes)))
+    (cond (eqb kind 0x52) (sized 18 bytes (rec.Run (runBody bytes)))
     (cond (eqb kind 0x5A) (sized 2 bytes (rec.End (word2 bytes 0))) rec.Unknown))
 
 -- the record that the bytes begin with; where no byte is left, the record is cut
 unfoldable pub recordOf : List ℕ → Record
 recordOf [] = rec.Cut
 recordOf (kind ∷ bytes) = decoded kind bytes
-
--- a record is no run, or no head
-abbrev pub NotRun : Record → Type 0
-NotRun (rec.Head number) = Unit {0}
-NotRun (rec.Run r) = ⊥
-NotRun (rec.End count) = Unit {0}
-NotRun rec.Unknown = Unit {0}
-NotRun rec.Cut = Unit {0}
-
-abbrev pub NotHead : Record → Type 0
-NotHead (rec.Head number) = ⊥
-NotHead (rec.Run r) = Unit {0}
-NotHead (rec.End count) = Unit {0}
-NotHead rec.Unknown = Unit {0}
-NotHead rec.Cut = Unit {0}

@@ -5,9 +5,10 @@ ghost use Prim.Native.Nat.{ℕ, _+_, _<_, _≤_};
 ghost use lib.ListN.{length, drop};
 ghost use Rattle.job.specs.Fields.{word2, word4, biasedOf};
 ghost use Rattle.job.specs.Refusal.{refusalNumber, refusalPlace};
-ghost use Rattle.job.specs.Records.{runOf, decoded, recordOf, NotRun, NotHead};
+ghost use Rattle.job.specs.Records.{runBody, decoded, recordOf};
+ghost use Rattle.job.specs.Branches.{NotRun, NotHead};
 ghost use Rattle.job.specs.Parse.{follows, coordinatesIn, runStep, endStep, stepBy, stepOf, refused, firstBy};
-ghost use Rattle.job.specs.Reading.{jobOf, readingOf};
+ghost use Rattle.job.specs.Reading.{jobOf, Reads};
 
 // Why a call is refused: document 01's numbers 1 to 11 in this order. A case that has a place holds it.
 pub enum Refusal {
@@ -142,7 +143,7 @@ fn biased(word: u32) -> u32
 // The run in a body.
 fn run_of(body: &[u8]) -> Run
     requires { ⌜ 18 ≤ length (now body) ⌝ }
-    ensures { λ r. ⌜ r ≡ runOf (now (body .entry)) ⌝ }
+    ensures { λ r. ⌜ r ≡ runBody (now (body .entry)) ⌝ }
 {
     Run {
         number: le16(body, 0),
@@ -302,9 +303,9 @@ fn refusing(refusal: Refusal) -> Reading
     }
 }
 
-// Reads a job: the job, or the first refusal from 3 to 10 that applies. No byte after the one that decides is read.
+// Reads a job: the job, or the first refusal from 3 to 10 that applies.
 pub fn read(job: &[u8]) -> Reading
-    ensures { λ r. ⌜ r ≡ readingOf (now (job .entry)) ⌝ }
+    ensures { λ r. ⌜ Reads (now (job .entry)) r ⌝ }
 {
     let first = record_at(job, 0);
     let Record::Head(number) = first else {

@@ -12,7 +12,7 @@ use Rattle.job.specs.declared.Job.{Job}
 use Rattle.job.specs.declared.Reading.{Reading}
 use Rattle.job.specs.declared.Answer.the-variants.{Accepted}
 use Rattle.job.specs.Parse.{accepted, parse}
-use Rattle.job.specs.Reading.{column, jobOf, readingOf}
+use Rattle.job.specs.Reading.{column, jobOf, Reads}
 use Rattle.job.specs.Written.{Bytes, noRun, InRange, WellFormed}
 use Rattle.job.proofs.Columns.{column-entry, column-unused}
 use Rattle.job.proofs.Answered.{reading-accepts}
@@ -62,7 +62,7 @@ job-held j number runs q w =
     )
 
 -- what a reading that accepts hands on: a job that is held, and is the one that was parsed
-pub reading-held : (s : List ℕ) (r : Reading) → Bytes s → r ≡ readingOf s → r .answer ≡ Accepted
+pub reading-held : (s : List ℕ) (r : Reading) → Bytes s → Reads s r → r .answer ≡ Accepted
     → Held (r .job) × (parse s ≡ accepted (r .job .number) (runsIn (r .job)))
 reading-held s r b q a =
     let t = reading-accepts s r b q a in

@@ -34,7 +34,7 @@ returns : tie.Need-returns Inv-loop μ-loop
 returns c =
     let s = now (c .before .before .before .before .before .args .job) in
     let first = c .before .before .before .record-at .ensures in
-    c .refusing .ensures ∙ first-refused s _ (c .before .not-head .ensures (drop 5 s) ∙ ap (λ g. firstBy g (drop 5 s)) first)
+    rw (c .refusing .ensures) (first-refused s _ (c .before .not-head .ensures (drop 5 s) ∙ ap (λ g. firstBy g (drop 5 s)) first))
 
 empty-job-requires : tie.Need-empty-job-requires Inv-loop μ-loop
 empty-job-requires c κs = search needs
@@ -110,8 +110,8 @@ refusing-requires-2 c κs = search needs
 
 returns-3 : tie.Need-returns-3 Inv-loop μ-loop
 returns-3 c =
-    c .refusing2 .ensures
-    ∙ so-far-refused _ _ _ _ _ _ (c .before .before .before .before .before .loop .inv) _ (sym (c .before .before .before .before .step-at .ensures) ∙ c .before .before .refusal .given .1)
+    rw (c .refusing2 .ensures)
+    (so-far-refused _ _ _ _ _ _ (c .before .before .before .before .before .loop .inv) _ (sym (c .before .before .before .before .step-at .ensures) ∙ c .before .before .refusal .given .1))
 
 pub read-spec : {M : Type 1} → statement M
 read-spec =
