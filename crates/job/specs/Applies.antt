@@ -1,5 +1,6 @@
--- When a refusal of the bytes applies: the list 3 to 10 of document 01, "What a call says and leaves", each number by itself and for every
--- place. Nothing is read in order here: which of those that apply is given, `Order` says.
+-- When a refusal of the bytes applies: the list 3 to 10 of document 01, "What a call says and leaves", each number by itself, for every place.
+-- Nothing is read in order here, and several can apply, also to one record: a cut record need not be whole to be misplaced (5), one too many (9)
+-- or an end with no runs (10). Which of those that apply is given, `Order` says.
 -- Assumes nothing.
 use Prim.Native.Nat.{ℕ, suc, _+_, _*_, _<_, _≤_}
 use mathlib.Core.Path.{_≡_}
@@ -27,17 +28,17 @@ sizeOf head = 5
 sizeOf run = 19
 sizeOf end = 3
 
--- a record of the kind starts at the place
+-- a record of the kind starts at the place: its kind byte stands there
 pub record Starts (k : Kind) (s : List ℕ) (p : ℕ) : Type 0 where
   pub within : p < length s
   pub kind : getD s p 0 ≡ byteOf k
 
--- and the bytes do not end inside it
+-- it is whole: the bytes do not end inside it
 pub record Whole (k : Kind) (s : List ℕ) (p : ℕ) : Type 0 where
   pub starts : Starts k s p
   pub ends : p + sizeOf k ≤ length s
 
--- where run i stands, from 0, and what stands behind n runs
+-- the place of run i, from 0, which is also the place of the record behind i runs
 abbrev pub place : ℕ → ℕ
 place n = 5 + 19 * n
 
@@ -51,7 +52,8 @@ pub record Behind (s : List ℕ) (n p : ℕ) : Type 0 where
 abbrev pub Begins : List ℕ → ℕ → Type 0
 Begins s p = (p ≡ 0) ⊎ ((n : ℕ) × Behind s n p)
 
--- the number in a run, the count in an end, and coordinate i of a run, from 0 (biased: see `Fields`)
+-- run: "run number, 2 bytes; then first x, first y, second x, second y, 4 bytes each"; end: "number of run records, 2 bytes". Coordinate i, from 0,
+-- is biased (see `Fields`).
 abbrev pub numberAt : List ℕ → ℕ → ℕ
 numberAt s p = word2 s (p + 1)
 
@@ -89,10 +91,8 @@ pub record OutOfRangeAt (s : List ℕ) (p : ℕ) : Type 0 where
   pub one : which < 4
   pub far : 2000000 < coordinateAt s p which
 
--- A refusal applies to the bytes of a job. 1, 2 and 11 are not about the bytes.
---  6: "the end's count differs from the runs read"
---  9: "a 33rd run"
--- 10: "an end with no runs"
+-- A refusal applies to the bytes of a job: 3, 4, 5, 7 and 8 as above; 6: "the end's count differs from the runs read"; 9: "a 33rd run"; 10: "an
+-- end with no runs". 1, 2 and 11 are not about the bytes.
 abbrev pub AppliesIn : List ℕ → Refusal → Type 0
 AppliesIn s ShortWork = ⊥
 AppliesIn s ShortPlan = ⊥

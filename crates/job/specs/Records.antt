@@ -1,4 +1,4 @@
--- A record is one byte of kind, then a body whose length the kind fixes (document 01, "Job book").
+-- Decoding a record, as `Parse` does: one byte of kind, then a body whose length the kind fixes (document 01, "Job book").
 -- Assumes nothing.
 use Prim.Native.Nat.{ℕ}
 use mathlib.Core.List.{List, [], _∷_}
