@@ -1,5 +1,5 @@
--- How long the text of a plan is: at most 85 characters for the head, 37 for each run and 18 for each corner. So a buffer of 74,421 bytes has room
--- for every plan's text.
+-- How long texts are: a plan's has at most 85 characters for the head, 37 for each run and 18 for each corner, a refusal's at most 35. So a buffer of
+-- 74,421 bytes has room for each.
 use mathlib.Core.List.{List, [], _∷_, _++_, flatMap}
 use Prim.Native.Nat.{ℕ, _+_, _*_, _≤_, _<_, _^_}
 use native.Mathlib.Omega.{arith}
@@ -10,18 +10,13 @@ use Rattle.job.specs.declared.Refusal.{Refusal}
 use Rattle.job.specs.declared.Refusal.the-variants as refusal
 use Rattle.job.specs.Refusal.{refusalNumber, refusalPlace}
 use Rattle.plan.specs.declared.Head.{Head}
-use Rattle.plan.specs.Writers.{Wrote}
-use Rattle.plan.specs.Plan.{Entry, totalCorners, bookBytes}
+use Rattle.plan.specs.Plan.{Entry, totalCorners}
 use Rattle.plan.proofs.Length.{total-few}
 use Rattle.plan.specs.Fits.{PointIn, EntryFits, HeadFits}
 use Rattle.text.specs.Numerals.{ascii}
 use Rattle.text.specs.Text.{headText, pointText, entryText, planText, refusalText}
-use Rattle.text.specs.Listing.{listingOf}
-use Rattle.text.specs.Listed.{Listed}
 use Rattle.text.proofs.Numerals.{decimal-length}
 use Rattle.text.proofs.Signed.{decimetres-length}
-use Rattle.text.proofs.Listed.{listed-whole}
-use Rattle.text.proofs.Plan.{plan-listing}
 
 -- the head, without its line feed
 head-length : (h : Head) → HeadFits h → length (headText h) ≤ 84
@@ -75,7 +70,7 @@ entries-length (e ∷ es) f a h =
 module _ (head : Head) (es : List Entry) (g : HeadFits head) (f : All EntryFits es) (a : All (λ e. All PointIn (e .corners)) es)
     (h : All (λ e. length (e .corners) ≤ 127) es) where
   -- the text of a plan whose figures fit their fields, and whose corners lie in their range
-  pub plan-length : length (planText head es) ≤ 85 + 37 * length es + 18 * totalCorners es
+  plan-length : length (planText head es) ≤ 85 + 37 * length es + 18 * totalCorners es
   unfolding planText
   plan-length =
       omega (
@@ -90,12 +85,6 @@ module _ (head : Head) (es : List Entry) (g : HeadFits head) (f : All EntryFits 
     -- no text of at most 32 runs exceeds 74,421 bytes
     pub plan-text-most : length (planText head es) ≤ 74421
     plan-text-most = omega (arith, plan-length, total-few es h)
-
-    -- Listing a plan's bytes into a buffer of 74,421 bytes writes the plan's text, whole.
-    pub plan-text-written : (rest xs ys : List ℕ) (n : ℕ) → 74421 ≤ length xs → Listed (listingOf (bookBytes head es ++ rest)) xs ys n
-        → Wrote (planText head es) xs ys n
-    plan-text-written rest xs ys n room w =
-        listed-whole (planText head es) xs ys n (rw (plan-listing head es g f a h rest) at w) (omega (arith, plan-text-most))
 
 -- ---- refusals
 
@@ -118,7 +107,3 @@ pub refusal-length : (r : Refusal) → refusalPlace r < 2 ^ 64 → length (refus
 unfolding refusalText
 refusal-length r h =
     simp length-append (omega (arith, decimal-length 1 (refusalNumber r) (number-length r), decimal-length 19 (refusalPlace r) (omega arith)))
-
--- Listing a refusal into a buffer of 35 bytes writes its text, whole.
-pub refusal-text-written : (r : Refusal) → refusalPlace r < 2 ^ 64 → (xs ys : List ℕ) (n : ℕ) → 35 ≤ length xs → Listed (refusalText r) xs ys n → Wrote (refusalText r) xs ys n
-refusal-text-written r h xs ys n room w = listed-whole (refusalText r) xs ys n w (omega (arith, refusal-length r h))

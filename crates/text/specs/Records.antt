@@ -10,8 +10,8 @@ use Rattle.text.specs.declared.Record.{Record}
 use Rattle.text.specs.declared.Record.the-variants as rec
 
 -- the head in the 18 bytes of a body
-abbrev pub headOf : List ℕ → Head
-headOf b =
+abbrev pub headBody : List ℕ → Head
+headBody b =
     record { job = word4 b 0; runs = word2 b 4; trench = word4 b 6; saved = word4 b 10; pits = word2 b 14; centre = word2 b 16 }
 
 -- a record whose body has so many bytes, unless the bytes end before that
@@ -21,7 +21,7 @@ whole size bytes r = cond (ltb (length bytes) size) rec.Other r
 -- the record of a kind, its body being what the bytes begin with
 unfoldable pub decoded : (kind : ℕ) → List ℕ → Record
 decoded kind bytes =
-    cond (eqb kind 0x50) (whole 18 bytes (rec.Head (headOf bytes)))
+    cond (eqb kind 0x50) (whole 18 bytes (rec.Head (headBody bytes)))
     (cond (eqb kind 0x4E) (whole 6 bytes (rec.Route (word2 bytes 0) (word2 bytes 2) (word2 bytes 4)))
     (cond (eqb kind 0x43) (whole 8 bytes (rec.Corner (word4 bytes 0) (word4 bytes 4)))
     (cond (eqb kind 0x5A) (whole 2 bytes rec.End) rec.Other)))

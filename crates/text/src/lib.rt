@@ -5,12 +5,12 @@ use plan::Head;
 ghost use mathlib.Core.Path.{_≡_};
 ghost use mathlib.Core.List.{[], _∷_, _++_};
 ghost use Prim.Native.Nat.{_≤_};
-ghost use lib.ListN.{length};
+ghost use lib.ListN.{length, replicate};
 ghost use mir.Syntax.{w32};
 ghost use mir.Val.{toZ};
 ghost use Rattle.text.specs.Numerals.{ascii, decimal, signed};
 ghost use Rattle.text.specs.Text.{figuresText, headText, routeText, cornerText, refusalText};
-ghost use Rattle.text.specs.Records.{headOf, decoded, recordOf};
+ghost use Rattle.text.specs.Records.{headBody, decoded, recordOf};
 ghost use Rattle.text.specs.Listing.{listingOf};
 ghost use Rattle.text.specs.Listed.{Listed, ListedRecord};
 
@@ -136,9 +136,9 @@ pub fn list_refusal(refusal: Refusal, text: &mut [u8]) -> usize
 }
 
 // The head in a body.
-fn head_of(body: &[u8]) -> Head
+fn head_body(body: &[u8]) -> Head
     requires { ⌜ 18 ≤ length (now body) ⌝ }
-    ensures { λ r. ⌜ r ≡ headOf (now (body .entry)) ⌝ }
+    ensures { λ r. ⌜ r ≡ headBody (now (body .entry)) ⌝ }
 {
     Head {
         job: job::le32(body, 0),
@@ -158,7 +158,7 @@ fn decode(kind: u8, body: &[u8]) -> Record
         if body.len() < 18 {
             return Record::Other;
         }
-        return Record::Head(head_of(body));
+        return Record::Head(head_body(body));
     }
     if kind == 0x4E {
         if body.len() < 6 {
@@ -247,6 +247,7 @@ pub fn list_plan(plan: &[u8], text: &mut [u8]) -> usize
 
 // Zeros, enough for every text of a plan with at most 32 runs and of a refusal.
 pub fn buffer() -> [u8; 74421]
+    ensures { λ r. ⌜ r ≡ replicate 74421 0 ⌝ }
     ensures { λ r. ⌜ 74421 ≡ length r ⌝ }
 {
     [0; 74421]

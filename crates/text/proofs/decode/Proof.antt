@@ -11,12 +11,12 @@ returns : tie.Need-returns
 unfolding decoded
 returns c = simp (eq-eqb _ _ (c .before .if1 .taken), lt-ltb _ _ (c .if2 .taken))
 
-head-of-requires : tie.Need-head-of-requires
-head-of-requires c κs = search needs
+head-body-requires : tie.Need-head-body-requires
+head-body-requires c κs = search needs
 
 returns-2 : tie.Need-returns-2
 unfolding decoded
-returns-2 c = simp (eq-eqb _ _ (c .before .before .if1 .taken), le-ltb _ _ (c .before .if2 .left)) (ap rec.Head (c .head-of .ensures))
+returns-2 c = simp (eq-eqb _ _ (c .before .before .if1 .taken), le-ltb _ _ (c .before .if2 .left)) (ap rec.Head (c .head-body .ensures))
 
 returns-3 : tie.Need-returns-3
 unfolding decoded
@@ -66,7 +66,7 @@ decode-spec =
     tie.close
     (tie.spec
     returns
-    head-of-requires
+    head-body-requires
     returns-2
     returns-3
     le16-requires

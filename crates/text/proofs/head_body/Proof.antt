@@ -1,7 +1,7 @@
--- `text::head_of` meets its contract: each field is what its reader ensures.
+-- `text::head_body` meets its contract: each field is what its reader ensures.
 use borrow.Author.Needs.{needs}
-use Rattle.text.proofs.head_of.Statement.{statement}
-use Rattle.text.proofs.head_of.Tie as tie
+use Rattle.text.proofs.head_body.Statement.{statement}
+use Rattle.text.proofs.head_body.Tie as tie
 
 le32-requires : tie.Need-le32-requires
 le32-requires c κs = search needs
@@ -24,8 +24,8 @@ le16-requires-3 c κs = search needs
 returns : tie.Need-returns
 returns c = cc
 
-pub head-of-spec : {M : Type 1} → statement M
-head-of-spec =
+pub head-body-spec : {M : Type 1} → statement M
+head-body-spec =
     tie.close
     (tie.spec
     le32-requires
