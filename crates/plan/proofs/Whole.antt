@@ -86,7 +86,7 @@ plan-written job numbers runs columns rows ns ms routes head fc fr t a h f =
 -- ---- no plan is long
 
 -- Manhattan routes are as many as their runs, and have at most 127 corners each
-routes-few : (g : Grid) → length (g .columns) ≤ 64 → length (g .rows) ≤ 64 → (runs : List Run) (routes : List Route) → Routes g runs routes
+pub routes-few : (g : Grid) → length (g .columns) ≤ 64 → length (g .rows) ≤ 64 → (runs : List Run) (routes : List Route) → Routes g runs routes
     → (length routes ≡ length runs) × All (λ c. length c ≤ 127) (map corners routes)
 routes-few g h k [] [] m = (refl, tt)
 routes-few g h k (run ∷ runs) (route ∷ routes) m =

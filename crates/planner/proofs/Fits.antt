@@ -85,7 +85,8 @@ unfolding distance gap
 distances-bounded [] h = omega arith
 distances-bounded (r ∷ l) h = omega (arith, distances-bounded l (tail-in r l h), h 0 (omega arith))
 
-number-bounded : (l : List Read) → AllIn l → (i : ℕ) → getD (numbersOf l) i 0 ≤ 9999
+-- a run's number has at most four digits
+pub number-bounded : (l : List Read) → AllIn l → (i : ℕ) → getD (numbersOf l) i 0 ≤ 9999
 number-bounded [] h i = omega arith
 number-bounded (r ∷ l) h zero = h 0 (omega arith) .most
 number-bounded (r ∷ l) h (suc i) = number-bounded l (tail-in r l h) i

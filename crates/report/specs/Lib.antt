@@ -1,0 +1,2 @@
+-- What the listing of a job says.
+pub mod Report
