@@ -6,7 +6,7 @@ use mathlib.Core.List.{List, [], _++_, append-nil}
 use Prim.Native.Nat.{ℕ, _≤_, _<_, _^_}
 use native.Mathlib.Omega.{arith}
 use lib.ListN.{length, take, length-append, length-take}
-use lib.Seq.{take-at, length-take-le}
+use lib.Seq.{take-at}
 use Rattle.network.specs.Hanan.{hanan}
 use Rattle.network.specs.Route.{Route, Least}
 use Rattle.job.specs.declared.Run.{Run as Read}
@@ -61,10 +61,6 @@ module _ (job : List ℕ) (answer : Answer) (plan : List ℕ) (s : Said (judged 
           let same : length (planOf number runs routes) ≡ k = cc in
           omega (arith, ap length p, length-append (planOf number runs routes) rest)
       go (refusing x e r) = absurd (no-answer k x (sym a ∙ r))
-
-  -- they are that many
-  pub plan-count : (k : ℕ) → answer ≡ Planned k → k ≡ length (take k plan)
-  plan-count k a = sym (length-take-le k plan (plan-within k a))
 
   module _ (text text′ : List ℕ) (n : ℕ) where
     -- and their listing is what is due

@@ -1,8 +1,11 @@
 -- What the call of the planner says of the answer and of the plan buffer is the verdict on the job; each arm lists what it answers.
+use mathlib.Core.Path.{sym}
 use denote.Ref.{now}
+use native.Mathlib.Omega.{arith}
+use lib.Seq.{length-take-le}
 use borrow.Author.Needs.{needs}
 use Rattle.report.proofs.Answered.{said}
-use Rattle.report.proofs.Reported.{plan-within, plan-count, plan-reported, refusal-reported}
+use Rattle.report.proofs.Reported.{plan-within, plan-reported, refusal-reported}
 use Rattle.report.proofs.list_job.Statement.{statement}
 use Rattle.report.proofs.list_job.Tie as tie
 
@@ -23,14 +26,15 @@ array-share-prefix-out c =
     let d = c .before .before .before .before .before in
     let p = d .plan in
     let job = now (d .before .before .before .before .before .args .job) in
-    plan-within job (p .result) (p .last .1 .1 .0) (said job (p .result) (p .last .1 .0) (p .last .1 .1 .0) (p .ensures)) _ (c .before .answer .given .1)
+    omega (arith, plan-within job (p .result) (p .last .1 .1 .0) (said job (p .result) (p .last .1 .0) (p .last .1 .1 .0) (p .ensures)) _ (c .before .answer .given .1))
 
 slice-aggregate-list-plan : tie.Need-slice-aggregate-list-plan
 slice-aggregate-list-plan c =
     let d = c .before .before .before .before .before .before in
     let p = d .plan in
     let job = now (d .before .before .before .before .before .args .job) in
-    plan-count job (p .result) (p .last .1 .1 .0) (said job (p .result) (p .last .1 .0) (p .last .1 .1 .0) (p .ensures)) _ (c .before .before .answer .given .1)
+    let h = plan-within job (p .result) (p .last .1 .1 .0) (said job (p .result) (p .last .1 .0) (p .last .1 .1 .0) (p .ensures)) _ (c .before .before .answer .given .1) in
+    sym (length-take-le _ (p .last .1 .1 .0) (omega (arith, h)))
 
 list-plan-requires : tie.Need-list-plan-requires
 list-plan-requires c κs = search needs
