@@ -14,3 +14,4 @@ pub mod Order
 pub mod Located
 pub mod Turns
 pub mod First
+pub mod Within

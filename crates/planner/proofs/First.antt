@@ -10,13 +10,14 @@ use borrow.Author.Tests.{ltb-true, ltb-false}
 use lib.Dec.{ltb}
 use Rattle.job.specs.declared.Run.{Run as Read}
 use Rattle.job.specs.declared.Refusal.{Refusal}
-use Rattle.job.specs.declared.Refusal.the-variants.{ShortWork, ShortPlan, Cut, UnknownKind, Misplaced, WrongCount, WrongNumber, OutOfRange, TooManyRuns, NoRuns, NoStar}
+use Rattle.job.specs.declared.Refusal.the-variants.{ShortWork, ShortPlan, NoStar}
 use Rattle.job.specs.Order.{stageOf, turnOf, Sooner, by-stage, by-place, by-turn, FirstOf}
 use Rattle.job.specs.Applies.{AppliesIn}
 use Rattle.job.specs.Parse.{Parsed, accepted, refused, parse}
 use Rattle.job.specs.Written.{Bytes}
 use Rattle.job.proofs.Accepted.{accepted-iff}
 use Rattle.job.proofs.Order.{sooner-total, sooner-self}
+use Rattle.job.proofs.Located.{one-stage}
 use Rattle.job.proofs.First.{first-applies, none-applies}
 use Rattle.planner.specs.Call.{runsOf}
 use Rattle.planner.specs.Verdict.{judged, verdict}
@@ -37,20 +38,6 @@ first-stage : (y : Refusal) → Sooner y ShortPlan → (stageOf y ≡ 0) × (tur
 first-stage y (by-stage h) = absurd (omega arith)
 first-stage y (by-place e h) = absurd (omega arith)
 first-stage y (by-turn e f h) = (e, h)
-
--- what applies to the bytes is in the second stage
-second-stage : (s : List ℕ) (y : Refusal) → AppliesIn s y → stageOf y ≡ 1
-second-stage s ShortWork h = absurd h
-second-stage s ShortPlan h = absurd h
-second-stage s (Cut p) h = refl
-second-stage s (UnknownKind p) h = refl
-second-stage s (Misplaced p) h = refl
-second-stage s (WrongCount p) h = refl
-second-stage s (WrongNumber p) h = refl
-second-stage s (OutOfRange p) h = refl
-second-stage s (TooManyRuns p) h = refl
-second-stage s (NoRuns p) h = refl
-second-stage s NoStar h = absurd h
 
 -- a refusal is no acceptance
 not-both : (x : Refusal) (number : ℕ) (runs : List Read) → refused x ≡ accepted number runs → ⊥
@@ -76,7 +63,7 @@ module _ (job : List ℕ) (words bytes : ℕ) (b : Bytes job) where
       not-first : (y : Refusal) → Applies job words bytes y → (stageOf y ≡ 0) × (turnOf y < 1) → ⊥
       not-first ShortWork (short-work w) s = omega arith
       not-first ShortPlan (short-plan o) s = omega arith
-      not-first y (in-bytes a) s = omega (arith, second-stage job y a)
+      not-first y (in-bytes a) s = omega (arith, one-stage job y a)
       not-first NoStar (no-star j n) s = omega arith
 
   -- 3 to 10

@@ -15,16 +15,14 @@ use Rattle.job.specs.declared.Run.{Run as Read}
 use Rattle.job.specs.Written.{WellFormed}
 use Rattle.plan.specs.Plan.{entriesFrom, meetsOf, drawnBytes, planBytes}
 use Rattle.plan.proofs.Length.{entries-all, entries-length}
-use Rattle.plan.proofs.Determined.{EntryFits, InRange}
+use Rattle.plan.specs.Fits.{EntryFits, PointIn}
 use Rattle.plan.proofs.Whole.{routes-few}
-use Rattle.planner.specs.Verdict.{runOf, runsOf, numbersOf}
-use Rattle.planner.specs.Outcome.{planOf}
+use Rattle.planner.specs.Call.{runOf, runsOf, numbersOf, planHead, planEntries, planOf}
 use Rattle.planner.proofs.Fits.{corners-in, head-fits, few-lines, number-bounded}
 use Rattle.text.specs.Text.{planText}
 use Rattle.text.specs.Listing.{listingOf}
 use Rattle.text.proofs.Plan.{plan-listing}
 use Rattle.text.proofs.Length.{plan-text-most}
-use Rattle.report.specs.Report.{headOn, entriesOn}
 
 -- entries fit their fields where the numbers and the meets figures do
 entries-fit : (number meets : ℕ → ℕ) → ((i : ℕ) → number i < 65536) → ((i : ℕ) → meets i < 65536) → (i : ℕ) (own : List Route)
@@ -43,28 +41,28 @@ module _ (number : ℕ) (runs : List Read) (w : WellFormed number runs) (routes 
   few = let l = few-lines runs (w .most) in routes-few (hanan (runsOf runs)) (l .0) (l .1) (runsOf runs) routes m
 
   -- the numbers of the entries fit their fields
-  fits : All EntryFits (entriesOn runs routes)
+  fits : All EntryFits (planEntries runs routes)
   fits =
       entries-fit (λ i. getD (numbersOf runs) i 0) (meetsOf (runsOf runs)) (λ i. omega (arith, number-bounded runs (w .in-range) i))
       (λ i. omega (arith, meets-most runs i, w .most)) 0 (map corners routes)
 
   -- their corners lie in their range
-  inside : All (λ e. All InRange (e .corners)) (entriesOn runs routes)
-  inside = entries-all (All InRange) (λ i. getD (numbersOf runs) i 0) (meetsOf (runsOf runs)) 0 (map corners routes) (corners-in runs (w .in-range) routes m)
+  inside : All (λ e. All PointIn (e .corners)) (planEntries runs routes)
+  inside = entries-all (All PointIn) (λ i. getD (numbersOf runs) i 0) (meetsOf (runsOf runs)) 0 (map corners routes) (corners-in runs (w .in-range) routes m)
 
   -- and are few
-  short : All (λ e. length (e .corners) ≤ 127) (entriesOn runs routes)
+  short : All (λ e. length (e .corners) ≤ 127) (planEntries runs routes)
   short = entries-all (λ c. length c ≤ 127) (λ i. getD (numbersOf runs) i 0) (meetsOf (runsOf runs)) 0 (map corners routes) (few .1)
 
   -- the listing of the plan's bytes, whatever stands behind them, is the plan's text
-  pub plan-lists : (rest : List ℕ) → listingOf (planOf number runs routes ++ rest) ≡ planText (headOn number runs routes) (entriesOn runs routes)
+  pub plan-lists : (rest : List ℕ) → listingOf (planOf number runs routes ++ rest) ≡ planText (planHead number runs routes) (planEntries runs routes)
   unfolding planBytes drawnBytes
-  plan-lists rest = plan-listing (headOn number runs routes) (entriesOn runs routes) (head-fits number runs w routes m) fits inside short rest
+  plan-lists rest = plan-listing (planHead number runs routes) (planEntries runs routes) (head-fits number runs w routes m) fits inside short rest
 
   -- which has at most 74,421 bytes
-  pub plan-room : length (planText (headOn number runs routes) (entriesOn runs routes)) ≤ 74421
+  pub plan-room : length (planText (planHead number runs routes) (planEntries runs routes)) ≤ 74421
   plan-room =
-      plan-text-most (headOn number runs routes) (entriesOn runs routes) (head-fits number runs w routes m) fits inside short
+      plan-text-most (planHead number runs routes) (planEntries runs routes) (head-fits number runs w routes m) fits inside short
       (omega (
         arith,
         entries-length (λ i. getD (numbersOf runs) i 0) (meetsOf (runsOf runs)) 0 (map corners routes),

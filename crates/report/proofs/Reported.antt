@@ -1,7 +1,7 @@
 -- The listing of a job is the text of the verdict: of the plan that stands in the plan buffer, or of the refusal that is answered. A text buffer of 74,421
 -- bytes has room for all of it, and the first 640 bytes of the job decide it.
 use mathlib.Core.Path.{_≡_, refl, sym, ap, _∙_}
-use mathlib.Core.Bool.{Bool, true, false, cond}
+use mathlib.Core.Logic.{_⊎_, inl, inr}
 use mathlib.Core.List.{List, [], _++_, append-nil}
 use Prim.Native.Nat.{ℕ, _≤_, _<_, _^_}
 use native.Mathlib.Omega.{arith}
@@ -15,48 +15,43 @@ use Rattle.job.specs.declared.Refusal.the-variants.{NoStar}
 use Rattle.job.specs.Refusal.{refusalPlace}
 use Rattle.job.specs.Parse.{Parsed, accepted, refused, parse}
 use Rattle.job.specs.Written.{Bytes, WellFormed}
-use Rattle.job.proofs.Accepted.{accepted-well-formed}
-use Rattle.job.proofs.Refused.{refused-fault}
+use Rattle.job.proofs.First.{first-applies}
+use Rattle.job.proofs.Within.{applies-within}
 use Rattle.job.proofs.Prefix.{parse-prefix}
-use Rattle.plan.specs.Bytes.{Wrote}
+use Rattle.plan.specs.Writers.{Wrote}
 use Rattle.planner.specs.declared.Answer.{Answer}
 use Rattle.planner.specs.declared.Answer.the-variants.{Planned, Refused}
-use Rattle.planner.specs.Verdict.{runsOf, centresOf, isStar, judged}
-use Rattle.planner.specs.Outcome.{planOf}
-use Rattle.planner.proofs.Verdicts.{no-answer}
+use Rattle.planner.specs.Call.{runsOf, planHead, planEntries, planOf}
+use Rattle.planner.specs.Verdict.{judged}
+use Rattle.planner.specs.Demands.{IsStar}
+use Rattle.planner.proofs.Stars.{judged-refuses, job-star}
 use Rattle.text.specs.Text.{planText, refusalText}
 use Rattle.text.specs.Listing.{listingOf}
 use Rattle.text.specs.Listed.{Listed}
 use Rattle.text.proofs.Listed.{listed-whole}
 use Rattle.text.proofs.Length.{refusal-length}
-use Rattle.report.specs.Report.{headOn, entriesOn, Lists, Reported}
+use Rattle.report.specs.Report.{Lists, Reported}
 use Rattle.report.proofs.Lines.{plan-lists, plan-room}
-use Rattle.report.proofs.Answered.{Said, planned, refusing}
+use Rattle.report.proofs.Answered.{Answered, planned, refusing}
 
 -- ---- the verdict on a job
 
--- a job that is accepted was read so
-judged-read : (p : Parsed) (number : ℕ) (runs : List Read) → judged p ≡ accepted number runs → p ≡ accepted number runs
-unfolding judged
-judged-read (accepted m rs) number runs e = go (isStar (centresOf (runsOf rs))) e
-  where
-    go : (b : Bool) → cond b (accepted m rs) (refused NoStar) ≡ accepted number runs → accepted m rs ≡ accepted number runs
-    go true q = q
-    go false q = absurd (let z : _≡_ {A = ℕ} 0 1 = cc in omega arith)
-judged-read (refused x) number runs e = absurd (let z : _≡_ {A = ℕ} 0 1 = cc in omega arith)
-
--- so it is well formed
+-- what is accepted is well formed
 judged-formed : (job : List ℕ) (number : ℕ) (runs : List Read) → Bytes job → judged (parse job) ≡ accepted number runs → WellFormed number runs
-judged-formed job number runs b e = accepted-well-formed job number runs b (judged-read (parse job) number runs e)
+judged-formed job number runs b e = job-star job b number runs e .0
+
+-- a plan is no refusal
+no-answer : (n : ℕ) (x : Refusal) → Planned n ≡ Refused x → ⊥
+no-answer n x e = let z : _≡_ {A = ℕ} 0 1 = cc in omega arith
 
 -- ---- the answers of a call
 
-module _ (job : List ℕ) (answer : Answer) (plan : List ℕ) (s : Said (judged (parse job)) answer plan) where
+module _ (job : List ℕ) (answer : Answer) (plan : List ℕ) (s : Answered (judged (parse job)) answer plan) where
   -- a plan of this length stands in the first bytes of the plan buffer
   pub plan-within : (k : ℕ) → answer ≡ Planned k → k ≤ length plan
   plan-within k a = go s
     where
-      go : Said (judged (parse job)) answer plan → k ≤ length plan
+      go : Answered (judged (parse job)) answer plan → k ≤ length plan
       go (planned number runs routes rest e least q p) =
           let same : length (planOf number runs routes) ≡ k = cc in
           omega (arith, ap length p, length-append (planOf number runs routes) rest)
@@ -67,7 +62,7 @@ module _ (job : List ℕ) (answer : Answer) (plan : List ℕ) (s : Said (judged 
     pub plan-reported : Bytes job → (k : ℕ) → answer ≡ Planned k → Listed (listingOf (take k plan)) text text′ n → Reported (judged (parse job)) text text′ n
     plan-reported b k a l = go s
       where
-        go : Said (judged (parse job)) answer plan → Reported (judged (parse job)) text text′ n
+        go : Answered (judged (parse job)) answer plan → Reported (judged (parse job)) text text′ n
         go (planned number runs routes rest e least q p) =
             let same : length (planOf number runs routes) ≡ k = cc in
             let bytes : take k plan ≡ planOf number runs routes ++ [] = rw (p, append-nil) (take-at (planOf number runs routes) rest k same) in
@@ -82,7 +77,7 @@ module _ (job : List ℕ) (answer : Answer) (plan : List ℕ) (s : Said (judged 
     pub refusal-reported : (x : Refusal) → answer ≡ Refused x → Listed (refusalText x) text text′ n → Reported (judged (parse job)) text text′ n
     refusal-reported x a l = go s
       where
-        go : Said (judged (parse job)) answer plan → Reported (judged (parse job)) text text′ n
+        go : Answered (judged (parse job)) answer plan → Reported (judged (parse job)) text text′ n
         go (planned number runs routes rest e least q p) = absurd (no-answer _ x (sym q ∙ a))
         go (refusing y e r) = let same : x ≡ y = cc in rw (e, ← same) l
 
@@ -91,23 +86,22 @@ module _ (job : List ℕ) (answer : Answer) (plan : List ℕ) (s : Said (judged 
 -- a refusal of a job is told at a place in its first 640 bytes, or behind them
 place-few : (job : List ℕ) (x : Refusal) → parse job ≡ refused x → refusalPlace x ≤ 640
 place-few job x e =
-    omega (arith, refused-fault (take 640 job) x (parse-prefix 640 job (omega arith) ∙ e) .place, length-take 640 job)
+    omega (arith, applies-within (take 640 job) x (first-applies (take 640 job) x .0 (parse-prefix 640 job (omega arith) ∙ e) .applies), length-take 640 job)
 
 -- so is that of the verdict, and 11 has the place 0
-judged-place : (job : List ℕ) (p : Parsed) (x : Refusal) → parse job ≡ p → judged p ≡ refused x → refusalPlace x ≤ 640
-unfolding judged
-judged-place job (accepted m rs) x e r = go (isStar (centresOf (runsOf rs))) r
+judged-place : (job : List ℕ) (x : Refusal) → judged (parse job) ≡ refused x → refusalPlace x ≤ 640
+judged-place job x e = go (judged-refuses (parse job) x e)
   where
-    go : (b : Bool) → cond b (accepted m rs) (refused NoStar) ≡ refused x → refusalPlace x ≤ 640
-    go true q = absurd (let z : _≡_ {A = ℕ} 0 1 = cc in omega arith)
-    go false q = let same : NoStar ≡ x = cc in rw (← same) (omega arith)
-judged-place job (refused y) x e r = place-few job x (e ∙ r)
+    go : (parse job ≡ refused x) ⊎ ((number : ℕ) × (runs : List Read) × (parse job ≡ accepted number runs) × (IsStar (runsOf runs) → ⊥) × (x ≡ NoStar))
+        → refusalPlace x ≤ 640
+    go (inl r) = place-few job x r
+    go (inr (number, runs, r, n, z)) = rw z (omega arith)
 
 -- the whole text stands in the buffer, and later bytes are untouched
 pub record ListsWhole (number : ℕ) (runs : List Read) (text text′ : List ℕ) (n : ℕ) : Type 0 where
   pub routes : List Route
   pub least : Least (hanan (runsOf runs)) (runsOf runs) routes
-  pub wrote : Wrote (planText (headOn number runs routes) (entriesOn runs routes)) text text′ n
+  pub wrote : Wrote (planText (planHead number runs routes) (planEntries runs routes)) text text′ n
 
 abbrev pub ReportedWhole : Parsed → (text text′ : List ℕ) → ℕ → Type 0
 ReportedWhole (accepted number runs) text text′ n = ListsWhole number runs text text′ n
@@ -123,7 +117,7 @@ report-whole job text text′ n b room r = go (judged (parse job)) refl r
         let few = plan-room number runs (judged-formed job number runs b e) (l .routes) (l .least .are-routes) in
         record { routes = l .routes; least = l .least; wrote = listed-whole _ text text′ n (l .listed) (omega arith) }
     go (refused x) e l =
-        let place = judged-place job (parse job) x refl e in
+        let place = judged-place job x e in
         listed-whole _ text text′ n l (omega (arith, refusal-length x (omega arith)))
 
 -- ---- a job of which 640 bytes are read
