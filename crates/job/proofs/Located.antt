@@ -108,10 +108,11 @@ pub data Located (s : List ℕ) (n p : ℕ) (x : Refusal) : Type 0 where
   later : p < refusalPlace x → Whole run s p → Located s n p x
   behind : x ≡ Misplaced (p + 3) → Whole end s p → p + 3 < length s → Located s n p x
 
--- a record is of one kind
+-- a run is no head
 pub run-head : (s : List ℕ) (p : ℕ) → Whole run s p → Starts head s p → ⊥
 run-head s p w h = omega (arith, w .starts .kind, h .kind)
 
+-- nor an end
 pub run-end : (s : List ℕ) (p : ℕ) → Whole run s p → Starts end s p → ⊥
 run-end s p w h = omega (arith, w .starts .kind, h .kind)
 

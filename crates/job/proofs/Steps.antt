@@ -29,25 +29,27 @@ refuse-next x r e = let z : _≡_ {A = ℕ} 0 1 = cc in omega arith
 refuse-end : (x : Refusal) → Refuse x ≡ End → ⊥
 refuse-end x e = let z : _≡_ {A = ℕ} 0 1 = cc in omega arith
 
--- a run number that passes its test
+-- a run number from 1 to 9,999, above the last
 pub record Follows (last number : ℕ) : Type 0 where
   pub least : 1 ≤ number
   pub most : number ≤ 9999
   pub rises : last < number
 
+-- a number that the reader takes
 pub follows-true : (last number : ℕ) → follows last number ≡ true → Follows last number
 follows-true last number t =
     let f = and-eq-true-iff (leb 1 number && leb number 9999) (ltb last number) .0 t in
     let g = and-eq-true-iff (leb 1 number) (leb number 9999) .0 (f .0) in
     record { least = leb-true _ _ (g .0); most = leb-true _ _ (g .1); rises = ltb-true _ _ (f .1) }
 
--- coordinates that pass theirs
+-- four coordinates in their range
 pub record Coordinates (r : Run) : Type 0 where
   pub x1-in : r .x1 ≤ 2000000
   pub y1-in : r .y1 ≤ 2000000
   pub x2-in : r .x2 ≤ 2000000
   pub y2-in : r .y2 ≤ 2000000
 
+-- coordinates that the reader takes
 pub coordinates-true : (r : Run) → coordinatesIn r ≡ true → Coordinates r
 coordinates-true r t =
     let y2 = and-eq-true-iff (leb (r .x1) 2000000 && leb (r .y1) 2000000 && leb (r .x2) 2000000) (leb (r .y2) 2000000) .0 t in

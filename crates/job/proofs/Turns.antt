@@ -10,7 +10,6 @@ use native.Mathlib.Omega.{arith}
 use borrow.Author.Tests.{ltb-true, ltb-false, leb-true, leb-false, eqb-true, eqb-false, not-true, not-false}
 use lib.Dec.{leb, ltb, eqb}
 use lib.ListN.{length, drop, length-drop}
-use Rattle.job.specs.declared.Run.{Run}
 use Rattle.job.specs.declared.Record.{Record}
 use Rattle.job.specs.declared.Record.the-variants as rec
 use Rattle.job.specs.declared.Refusal.{Refusal}
@@ -106,23 +105,25 @@ pub data Sorted (s : List ℕ) (p : ℕ) (x : Refusal) : Type 0 where
   rest : turnOf (Misplaced p) ≤ turnOf x → Sorted s p x
 
 module _ (s : List ℕ) (p : ℕ) where
-  -- 4, then 3, then 5
+  -- nothing comes before 4
   pub least-four : (y : Refusal) → Sorted s p y → turnOf (UnknownKind p) ≤ turnOf y
   least-four y (unknown t e) = omega arith
   least-four y (cut t e) = omega arith
   least-four y (rest t) = omega arith
 
+  -- only 4 comes before 3, and bytes that end too soon are of a known kind
   pub least-three : CutAt s p → (y : Refusal) → Sorted s p y → turnOf (Cut p) ≤ turnOf y
   least-three c y (unknown t e) = absurd (cut-known s p c e)
   least-three c y (cut t e) = omega arith
   least-three c y (rest t) = omega arith
 
+  -- only 4 and 3 come before 5, and a whole record has neither
   pub least-five : (k : Kind) → Whole k s p → (y : Refusal) → Sorted s p y → turnOf (Misplaced p) ≤ turnOf y
   least-five k w y (unknown t e) = absurd (whole-known k s p w e)
   least-five k w y (cut t e) = absurd (whole-uncut k s p w e)
   least-five k w y (rest t) = t
 
-  -- what is wrong with a record behind n runs
+  -- whatever is wrong with a record behind n runs has its turn
   sort : (n : ℕ) (y : Refusal) → Here s n p y → Sorted s p y
   sort n ShortWork d = absurd d
   sort n ShortPlan d = absurd d
@@ -175,27 +176,30 @@ module _ (s : List ℕ) (n p last : ℕ) (h : Passed s n p last) where
   end-fault w (NoRuns q) d = empty refl (d .0)
   end-fault w NoStar d = absurd d
 
-  -- 9, then 7, then 8
+  -- of what can be wrong with a run, 9 comes first
   least-nine : (y : Refusal) → RunFault s n p y → turnOf (TooManyRuns p) ≤ turnOf y
   least-nine y (too-many t e) = omega arith
   least-nine y (misnumbered t e) = omega arith
   least-nine y (ranging t) = omega arith
 
+  -- then 7
   least-seven : n < 32 → (y : Refusal) → RunFault s n p y → turnOf (WrongNumber p) ≤ turnOf y
   least-seven l y (too-many t e) = absurd (omega arith)
   least-seven l y (misnumbered t e) = omega arith
   least-seven l y (ranging t) = omega arith
 
+  -- then 8
   least-eight : n < 32 → (WrongNumberAt s n p → ⊥) → (y : Refusal) → RunFault s n p y → turnOf (OutOfRange p) ≤ turnOf y
   least-eight l f y (too-many t e) = absurd (omega arith)
   least-eight l f y (misnumbered t e) = absurd (f e)
   least-eight l f y (ranging t) = omega arith
 
-  -- 6, then 10
+  -- of what can be wrong with an end, 6 comes first
   least-six : (y : Refusal) → EndFault s n p y → turnOf (WrongCount p) ≤ turnOf y
   least-six y (miscounted t e) = omega arith
   least-six y (empty t e) = omega arith
 
+  -- then 10
   least-ten : countAt s p ≡ n → (y : Refusal) → EndFault s n p y → turnOf (NoRuns p) ≤ turnOf y
   least-ten c y (miscounted t e) = absurd (e c)
   least-ten c y (empty t e) = omega arith
