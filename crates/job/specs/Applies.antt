@@ -1,6 +1,6 @@
 -- When a refusal of the bytes applies: the list 3 to 10 of document 01, "What a call says and leaves", each number by itself, for every place.
--- Nothing is read in order here, and several can apply, also to one record: a cut record need not be whole to be misplaced (5), one too many (9)
--- or an end with no runs (10). Which of those that apply is given, `Order` says.
+-- Nothing is read in order here, and several can apply, also to one record: a record need not be whole to be misplaced (5), one run too many (9)
+-- or an end with no runs (10), so 3 can apply beside them. Which of those that apply is given, `Order` says.
 -- Assumes nothing.
 use Prim.Native.Nat.{ℕ, suc, _+_, _*_, _<_, _≤_}
 use mathlib.Core.Path.{_≡_}
