@@ -46,5 +46,9 @@ unfoldable pub planText : Head → List Entry → List ℕ
 planText h es = (headText h ++ ascii "\n") ++ flatMap (λ e. entryText e ++ ascii "\n") es
 
 -- `refused 11 at 0`
+abbrev pub refusedText : (number place : ℕ) → List ℕ
+refusedText number place = (ascii "refused " ++ decimal number) ++ (ascii " at " ++ decimal place) ++ ascii "\n"
+
+-- a refusal, by its number and place
 unfoldable pub refusalText : Refusal → List ℕ
-refusalText r = (ascii "refused " ++ decimal (refusalNumber r)) ++ (ascii " at " ++ decimal (refusalPlace r)) ++ ascii "\n"
+refusalText r = refusedText (refusalNumber r) (refusalPlace r)

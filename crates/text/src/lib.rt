@@ -9,7 +9,7 @@ ghost use lib.ListN.{length, replicate};
 ghost use mir.Syntax.{w32};
 ghost use mir.Val.{toZ};
 ghost use Rattle.text.specs.Numerals.{ascii, decimal, signed};
-ghost use Rattle.text.specs.Text.{figuresText, headText, routeText, cornerText, refusalText};
+ghost use Rattle.text.specs.Text.{figuresText, headText, routeText, cornerText, refusedText, refusalText};
 ghost use Rattle.text.specs.Records.{headBody, decoded, recordOf};
 ghost use Rattle.text.specs.Listing.{listingOf};
 ghost use Rattle.text.specs.Listed.{Listed, ListedRecord};
@@ -126,13 +126,21 @@ fn write_corner(text: &mut [u8], x: u32, y: u32) -> usize
     at + write_coordinate(&mut text[at..], y)
 }
 
+fn write_refused(text: &mut [u8], number: u64, place: u64) -> usize
+    ensures { λ n. ⌜ Listed (refusedText number place) (now (text .entry)) (now (text .exit)) n ⌝ }
+{
+    let mut at = write_field(text, b"refused ", number);
+    at += write_field(&mut text[at..], b" at ", place);
+    at + write_byte(&mut text[at..], b'\n')
+}
+
 // The text of a refusal, as much of it as there is room for, and how many bytes that is.
 pub fn list_refusal(refusal: Refusal, text: &mut [u8]) -> usize
     ensures { λ n. ⌜ Listed (refusalText refusal) (now (text .entry)) (now (text .exit)) n ⌝ }
 {
-    let mut at = write_field(text, b"refused ", job::refusal_number(refusal) as u64);
-    at += write_field(&mut text[at..], b" at ", job::refusal_place(refusal) as u64);
-    at + write_byte(&mut text[at..], b'\n')
+    let number = job::refusal_number(refusal) as u64;
+    let place = job::refusal_place(refusal) as u64;
+    write_refused(text, number, place)
 }
 
 // The head in a body.

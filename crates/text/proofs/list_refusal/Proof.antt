@@ -1,57 +1,20 @@
--- `text::list_refusal` meets its contract: the place stands behind the number, and the line feed behind both.
+-- `text::list_refusal` meets its contract: what is written is the refusal's number and its place.
 use borrow.Author.Needs.{needs}
-use Rattle.text.proofs.Listed.{listed-next}
 use Rattle.text.specs.Text.{refusalText}
 use Rattle.text.proofs.list_refusal.Statement.{statement}
 use Rattle.text.proofs.list_refusal.Tie as tie
 
-slice-aggregate-write-field : tie.Need-slice-aggregate-write-field
-slice-aggregate-write-field c = search needs
-
 refusal-number-requires : tie.Need-refusal-number-requires
 refusal-number-requires c κs = search needs
 
-cast-write-field : tie.Need-cast-write-field
-cast-write-field c = search needs
-
-write-field-requires : tie.Need-write-field-requires
-write-field-requires c κs = search needs
-
-sub-write-field : tie.Need-sub-write-field
-sub-write-field c = search needs
-
-part-write-field-start : tie.Need-part-write-field-start
-part-write-field-start c = search needs
-
-part-write-field-end : tie.Need-part-write-field-end
-part-write-field-end c = search needs
-
-slice-aggregate-write-field-2 : tie.Need-slice-aggregate-write-field-2
-slice-aggregate-write-field-2 c = search needs
+cast-number : tie.Need-cast-number
+cast-number c = search needs
 
 refusal-place-requires : tie.Need-refusal-place-requires
 refusal-place-requires c κs = search needs
 
-write-field-requires-2 : tie.Need-write-field-requires-2
-write-field-requires-2 c κs = search needs
-
-add-at : tie.Need-add-at
-add-at c = search needs
-
-sub-write-byte : tie.Need-sub-write-byte
-sub-write-byte c = search needs
-
-part-write-byte-start : tie.Need-part-write-byte-start
-part-write-byte-start c = search needs
-
-part-write-byte-end : tie.Need-part-write-byte-end
-part-write-byte-end c = search needs
-
-write-byte-requires : tie.Need-write-byte-requires
-write-byte-requires c κs = search needs
-
-add-result : tie.Need-add-result
-add-result c = search needs
+write-refused-requires : tie.Need-write-refused-requires
+write-refused-requires c κs = search needs
 
 same-length : tie.Need-same-length
 same-length c = search needs
@@ -59,32 +22,16 @@ same-length c = search needs
 returns : tie.Need-returns
 unfolding refusalText
 returns c =
-    let c2 = c .before .before in
-    let c1 = c2 .before .before .before .before in
-    let c0 = c1 .before .before .before .before .before .before in
-    let number = rw (c0 .before .refusal-number .ensures) at (c0 .write-field .ensures) in
-    let place = rw (c1 .before .refusal-place .ensures) at (c1 .write-field2 .ensures) in
-    listed-next _ _ _ _ _ _ _ (listed-next _ _ _ _ _ _ _ number place) (c2 .write-byte .ensures)
+    let w = c .before .before in
+    rw (w .before .before .refusal-place .ensures, w .before .before .before .refusal-number .ensures) at (w .write-refused .ensures)
 
 pub list-refusal-spec : {M : Type 1} → statement M
 list-refusal-spec =
     tie.close
     (tie.spec
-    slice-aggregate-write-field
     refusal-number-requires
-    cast-write-field
-    write-field-requires
-    sub-write-field
-    part-write-field-start
-    part-write-field-end
-    slice-aggregate-write-field-2
+    cast-number
     refusal-place-requires
-    write-field-requires-2
-    add-at
-    sub-write-byte
-    part-write-byte-start
-    part-write-byte-end
-    write-byte-requires
-    add-result
+    write-refused-requires
     same-length
     returns)
