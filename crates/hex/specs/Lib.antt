@@ -1,0 +1,3 @@
+-- Lines of text and bytes in hexadecimal.
+pub mod Digits
+pub mod Lines
