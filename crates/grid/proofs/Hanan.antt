@@ -15,22 +15,22 @@ use Rattle.network.proofs.Lists.{each-member, index-member}
 use Rattle.network.proofs.Hanan.{distinct-listed, hanan-placed-at}
 use Rattle.grid.specs.declared.Axis.{Axis}
 use Rattle.grid.specs.Tables.{table}
-use Rattle.grid.specs.Runs.{runOf, runsOf}
+use Rattle.grid.specs.Runs.{runHeld, runsHeld}
 use Rattle.grid.specs.Lines.{values, axisOf, lengthAt}
-use Rattle.grid.proofs.Tables.{length-table, getD-table}
-use Rattle.grid.proofs.Places.{length-below}
+use Rattle.network.specs.Entries.{length-table, getD-table}
+use Rattle.grid.proofs.Places.{length-at-most}
 
 -- ---- the runs of four arrays
 
 -- they are n
-pub length-runs : (x1 y1 x2 y2 : List ℕ) (n : ℕ) → length (runsOf x1 y1 x2 y2 n) ≡ n
-unfolding runsOf
-length-runs x1 y1 x2 y2 n = length-table (runOf x1 y1 x2 y2) n
+pub length-runs : (x1 y1 x2 y2 : List ℕ) (n : ℕ) → length (runsHeld x1 y1 x2 y2 n) ≡ n
+unfolding runsHeld
+length-runs x1 y1 x2 y2 n = length-table (runHeld x1 y1 x2 y2) n
 
 -- run i of them
-pub run-at : (x1 y1 x2 y2 : List ℕ) (n i : ℕ) → i < n → runAt (runsOf x1 y1 x2 y2 n) i ≡ runOf x1 y1 x2 y2 i
-unfolding runsOf
-run-at x1 y1 x2 y2 n i h = getD-table (runOf x1 y1 x2 y2) n i (origin to origin) h
+pub run-at : (x1 y1 x2 y2 : List ℕ) (n i : ℕ) → i < n → runAt (runsHeld x1 y1 x2 y2 n) i ≡ runHeld x1 y1 x2 y2 i
+unfolding runsHeld
+run-at x1 y1 x2 y2 n i h = getD-table (runHeld x1 y1 x2 y2) n i (origin to origin) h
 
 -- x and y values alike: two numbers of each run, run after run
 abbrev pairs : (Run → ℕ) → (Run → ℕ) → List Run → List ℕ
@@ -55,33 +55,33 @@ module _ (p q : Run → ℕ) where
   pairs-table f (suc n) = pairs-append (table f n) (f n ∷ []) ∙ ap (λ l. l ++ (p (f n) ∷ q (f n) ∷ [])) (pairs-table f n)
 
 -- their x values, and their y values
-pub xs-runs : (x1 y1 x2 y2 : List ℕ) (n : ℕ) → xs (runsOf x1 y1 x2 y2 n) ≡ values x1 x2 n
-unfolding runsOf values
-xs-runs x1 y1 x2 y2 n = xs-are (runsOf x1 y1 x2 y2 n) ∙ pairs-table _ _ (runOf x1 y1 x2 y2) n
+pub xs-runs : (x1 y1 x2 y2 : List ℕ) (n : ℕ) → xs (runsHeld x1 y1 x2 y2 n) ≡ values x1 x2 n
+unfolding runsHeld values
+xs-runs x1 y1 x2 y2 n = xs-are (runsHeld x1 y1 x2 y2 n) ∙ pairs-table _ _ (runHeld x1 y1 x2 y2) n
 
-pub ys-runs : (x1 y1 x2 y2 : List ℕ) (n : ℕ) → ys (runsOf x1 y1 x2 y2 n) ≡ values y1 y2 n
-unfolding runsOf values
-ys-runs x1 y1 x2 y2 n = ys-are (runsOf x1 y1 x2 y2 n) ∙ pairs-table _ _ (runOf x1 y1 x2 y2) n
+pub ys-runs : (x1 y1 x2 y2 : List ℕ) (n : ℕ) → ys (runsHeld x1 y1 x2 y2 n) ≡ values y1 y2 n
+unfolding runsHeld values
+ys-runs x1 y1 x2 y2 n = ys-are (runsHeld x1 y1 x2 y2 n) ∙ pairs-table _ _ (runHeld x1 y1 x2 y2) n
 
 -- the lines of the two axes are the columns and the rows of the Hanan grid
-pub columns-are : (x1 y1 x2 y2 : List ℕ) (n : ℕ) → hanan (runsOf x1 y1 x2 y2 n) .columns ≡ distinct (values x1 x2 n)
+pub columns-are : (x1 y1 x2 y2 : List ℕ) (n : ℕ) → hanan (runsHeld x1 y1 x2 y2 n) .columns ≡ distinct (values x1 x2 n)
 columns-are x1 y1 x2 y2 n = ap distinct (xs-runs x1 y1 x2 y2 n)
 
-pub rows-are : (x1 y1 x2 y2 : List ℕ) (n : ℕ) → hanan (runsOf x1 y1 x2 y2 n) .rows ≡ distinct (values y1 y2 n)
+pub rows-are : (x1 y1 x2 y2 : List ℕ) (n : ℕ) → hanan (runsHeld x1 y1 x2 y2 n) .rows ≡ distinct (values y1 y2 n)
 rows-are x1 y1 x2 y2 n = ap distinct (ys-runs x1 y1 x2 y2 n)
 
 -- so an axis that holds the distinct values holds the grid's lines
-pub axis-columns : (x1 y1 x2 y2 : List ℕ) (n : ℕ) (a : Axis) → a ≡ axisOf (distinct (values x1 x2 n)) → a ≡ axisOf (hanan (runsOf x1 y1 x2 y2 n) .columns)
+pub axis-columns : (x1 y1 x2 y2 : List ℕ) (n : ℕ) (a : Axis) → a ≡ axisOf (distinct (values x1 x2 n)) → a ≡ axisOf (hanan (runsHeld x1 y1 x2 y2 n) .columns)
 axis-columns x1 y1 x2 y2 n a e = e ∙ ap axisOf (sym (columns-are x1 y1 x2 y2 n))
 
-pub axis-rows : (x1 y1 x2 y2 : List ℕ) (n : ℕ) (a : Axis) → a ≡ axisOf (distinct (values y1 y2 n)) → a ≡ axisOf (hanan (runsOf x1 y1 x2 y2 n) .rows)
+pub axis-rows : (x1 y1 x2 y2 : List ℕ) (n : ℕ) (a : Axis) → a ≡ axisOf (distinct (values y1 y2 n)) → a ≡ axisOf (hanan (runsHeld x1 y1 x2 y2 n) .rows)
 axis-rows x1 y1 x2 y2 n a e = e ∙ ap axisOf (sym (rows-are x1 y1 x2 y2 n))
 
 -- every run is placed on that grid
-pub run-placed : (x1 y1 x2 y2 : List ℕ) (n i : ℕ) → i < n → Placed (hanan (runsOf x1 y1 x2 y2 n)) (runOf x1 y1 x2 y2 i)
+pub run-placed : (x1 y1 x2 y2 : List ℕ) (n i : ℕ) → i < n → Placed (hanan (runsHeld x1 y1 x2 y2 n)) (runHeld x1 y1 x2 y2 i)
 run-placed x1 y1 x2 y2 n i h =
-    subst (Placed (hanan (runsOf x1 y1 x2 y2 n))) (run-at x1 y1 x2 y2 n i h)
-    (hanan-placed-at (runsOf x1 y1 x2 y2 n) i (rw (length-runs x1 y1 x2 y2 n) h))
+    subst (Placed (hanan (runsHeld x1 y1 x2 y2 n))) (run-at x1 y1 x2 y2 n i h)
+    (hanan-placed-at (runsHeld x1 y1 x2 y2 n) i (rw (length-runs x1 y1 x2 y2 n) h))
 
 -- where no coordinate is above m, no line is
 pub lines-below : (first second : List ℕ) (n m : ℕ) → ((i : ℕ) → i < n → (getD first i 0 ≤ m) × (getD second i 0 ≤ m))
@@ -100,4 +100,4 @@ lines-below first second n m h i k =
 -- and no edge is longer
 pub length-within : (first second : List ℕ) (n m : ℕ) → ((i : ℕ) → i < n → (getD first i 0 ≤ m) × (getD second i 0 ≤ m))
     → (i : ℕ) → suc i < length (distinct (values first second n)) → lengthAt (distinct (values first second n)) i ≤ m
-length-within first second n m h i k = length-below (distinct (values first second n)) i m (lines-below first second n m h (suc i) k)
+length-within first second n m h i k = length-at-most (distinct (values first second n)) i m (lines-below first second n m h (suc i) k)

@@ -145,12 +145,13 @@ module _ (a : Axis) (l : List ℕ) (e : a ≡ axisOf l) where
       ap (λ n. table (lengthAt (a .lines)) (pred n)) axis-count
       ∙ table-same (lengthAt (a .lines)) (lengthAt l) (pred (length l)) (λ i h. ap₂ (λ x y. x - y) (axis-line (suc i) (omega arith)) (axis-line i (omega arith)))
 
--- an edge has a length, which is at most the coordinate where it ends
+-- an edge has a length
 pub length-positive : (l : List ℕ) → Rising l → (i : ℕ) → suc i < length l → 0 < lengthAt l i
 length-positive l r i h = omega (arith, r i h)
 
-pub length-below : (l : List ℕ) (i m : ℕ) → getD l (suc i) 0 ≤ m → lengthAt l i ≤ m
-length-below l i m h = omega arith
+-- which is at most the coordinate where it ends
+pub length-at-most : (l : List ℕ) (i m : ℕ) → getD l (suc i) 0 ≤ m → lengthAt l i ≤ m
+length-at-most l i m h = omega arith
 
 -- the lengths of the grid's edges by the columns, and by the rows
 pub across-length : (g : Grid) (i j : ℕ) → len (acrossAt g i j) ≡ lengthAt (g .columns) i

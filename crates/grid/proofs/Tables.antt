@@ -3,28 +3,14 @@ use mathlib.Core.Path.{_≡_, refl, sym, ap, ap₂, _∙_}
 use mathlib.Core.Logic.{_⊎_, inl, inr}
 use mathlib.Core.List.{List, [], _∷_, _++_, append-nil}
 use Prim.Native.Nat.{ℕ, zero, suc, _+_, _-_, _≤_, _<_}
-use native.Mathlib.Nat.{eq-or-lt-of-le, le-of-suc-le-suc, not-suc-le-zero, le-refl}
+use native.Mathlib.Nat.{le-refl}
 use native.Mathlib.Numerals.{add-one}
 use native.Mathlib.Omega.{arith}
 use lib.ListN.{length, getD, set, replicate, length-append, length-replicate, List·getD-append}
-use lib.Seq.{set-at, append-snoc, getD-at, getD-append-add, ext-getD}
+use lib.Seq.{set-at, append-snoc, getD-append-add, ext-getD}
+use Rattle.network.specs.Entries.{length-table, getD-table}
 use Rattle.network.proofs.Numbers.{order}
 use Rattle.grid.specs.Tables.{table, padded}
-
-module _ {A : Type 0} (f : ℕ → A) where
-  -- a table of n entries
-  pub length-table : (n : ℕ) → length (table f n) ≡ n
-  length-table zero = refl
-  length-table (suc n) = length-append (table f n) (f n ∷ []) ∙ omega (arith, length-table n)
-
-  -- entry i of a table
-  pub getD-table : (n i : ℕ) (d : A) → i < n → getD (table f n) i d ≡ f i
-  getD-table zero i d h = absurd (not-suc-le-zero h)
-  getD-table (suc n) i d h = go (λ k. getD-table n i d k) (eq-or-lt-of-le (le-of-suc-le-suc h))
-    where
-      go : (i < n → getD (table f n) i d ≡ f i) → (i ≡ n) ⊎ (i < n) → getD (table f n ++ (f n ∷ [])) i d ≡ f i
-      go ih (inl e) = getD-at (table f n) (f n) [] d i (length-table n ∙ sym e) ∙ ap f (sym e)
-      go ih (inr k) = List·getD-append (table f n) (f n ∷ []) d i (omega (arith, length-table n)) ∙ ih k
 
 -- tables of the same entries are the same
 pub table-same : {A : Type 0} (f g : ℕ → A) (n : ℕ) → ((i : ℕ) → i < n → f i ≡ g i) → table f n ≡ table g n

@@ -23,8 +23,9 @@ use Rattle.network.specs.Boxes.{wide, overlapping}
 use Rattle.network.proofs.Numbers.{order}
 use Rattle.network.proofs.Meeting.{overlap-is}
 use Rattle.grid.specs.Tables.{table, padded}
-use Rattle.grid.specs.Runs.{runOf, runsOf}
-use Rattle.grid.proofs.Tables.{length-table, getD-table, table-same, length-padded, getD-padded, getD-behind, table-held}
+use Rattle.grid.specs.Runs.{runHeld, runsHeld}
+use Rattle.grid.proofs.Tables.{table-same, length-padded, getD-padded, getD-behind, table-held}
+use Rattle.network.specs.Entries.{length-table, getD-table}
 use Rattle.grid.proofs.Hanan.{run-at, run-placed}
 use Rattle.intersection.specs.declared.Sides.{Sides}
 use Rattle.intersection.specs.declared.Box.{Box}
@@ -214,14 +215,14 @@ module _ (x1 y1 x2 y2 : List ℕ) (n : ℕ) (few : n ≤ 32) where
   side : (f : ℕ → ℕ) (i : ℕ) → i < n → getD (table f 32) i 0 ≡ f i
   side f i h = getD-table f 32 i 0 (omega arith)
 
-  overlap-says : (i j : ℕ) → i < n → j < n → overlap (hanan (runsOf x1 y1 x2 y2 n)) (runAt (runsOf x1 y1 x2 y2 n) i) (runAt (runsOf x1 y1 x2 y2 n) j)
-      ≡ overlapping (runOf x1 y1 x2 y2 i) (runOf x1 y1 x2 y2 j)
+  overlap-says : (i j : ℕ) → i < n → j < n → overlap (hanan (runsHeld x1 y1 x2 y2 n)) (runAt (runsHeld x1 y1 x2 y2 n) i) (runAt (runsHeld x1 y1 x2 y2 n) j)
+      ≡ overlapping (runHeld x1 y1 x2 y2 i) (runHeld x1 y1 x2 y2 j)
   overlap-says i j h k =
-      ap₂ (overlap (hanan (runsOf x1 y1 x2 y2 n))) (run-at x1 y1 x2 y2 n i h) (run-at x1 y1 x2 y2 n j k)
-      ∙ overlap-is (hanan (runsOf x1 y1 x2 y2 n)) (runOf x1 y1 x2 y2 i) (runOf x1 y1 x2 y2 j) (run-placed x1 y1 x2 y2 n i h) (run-placed x1 y1 x2 y2 n j k)
+      ap₂ (overlap (hanan (runsHeld x1 y1 x2 y2 n))) (run-at x1 y1 x2 y2 n i h) (run-at x1 y1 x2 y2 n j k)
+      ∙ overlap-is (hanan (runsHeld x1 y1 x2 y2 n)) (runHeld x1 y1 x2 y2 i) (runHeld x1 y1 x2 y2 j) (run-placed x1 y1 x2 y2 n i h) (run-placed x1 y1 x2 y2 n j k)
 
   -- two runs: the comparison of their boxes says that they meet
-  pub boxes-meet : (i j : ℕ) → i < n → j < n → boxes i j ≡ meetsIn (runsOf x1 y1 x2 y2 n) i j
+  pub boxes-meet : (i j : ℕ) → i < n → j < n → boxes i j ≡ meetsIn (runsHeld x1 y1 x2 y2 n) i j
   unfolding boxesMeet meets overlapping
   boxes-meet i j h k =
       ap (λ (b : Bool). not (eqb i j) && b)
@@ -238,9 +239,9 @@ module _ (x1 y1 x2 y2 : List ℕ) (n : ℕ) (few : n ≤ 32) where
 
   -- so the sets that the comparisons give are those of the runs that meet
   pub sets-meet : (x y : Sides) → x ≡ sidesOf x1 x2 → y ≡ sidesOf y1 y2
-      → neighbourSets (boxesMeet (x .lower) (x .higher) (y .lower) (y .higher)) n ≡ neighbourSets (meetsIn (runsOf x1 y1 x2 y2 n)) n
+      → neighbourSets (boxesMeet (x .lower) (x .higher) (y .lower) (y .higher)) n ≡ neighbourSets (meetsIn (runsHeld x1 y1 x2 y2 n)) n
   sets-meet x y p q =
       ap₂ (λ (a b : Sides). neighbourSets (boxesMeet (a .lower) (a .higher) (b .lower) (b .higher)) n) p q
       ∙ ap (padded 32)
-      (table-same (λ i. pack (boxes i) n) (λ i. pack (meetsIn (runsOf x1 y1 x2 y2 n) i) n) n
-      (λ i h. pack-same (boxes i) (meetsIn (runsOf x1 y1 x2 y2 n) i) n (λ j k. boxes-meet i j h k)))
+      (table-same (λ i. pack (boxes i) n) (λ i. pack (meetsIn (runsHeld x1 y1 x2 y2 n) i) n) n
+      (λ i h. pack-same (boxes i) (meetsIn (runsHeld x1 y1 x2 y2 n) i) n (λ j k. boxes-meet i j h k)))

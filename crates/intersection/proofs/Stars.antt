@@ -1,60 +1,30 @@
 -- What the answers mean: the star of a group is its lowest centre, there is one exactly if the group has a centre, and for a whole job the sets
 -- that the code computes give the meets figures and the star of the runs that meet.
 use mathlib.Core.Path.{_≡_, refl, sym, ap, ap₂, _∙_}
-use mathlib.Core.Bool.{Bool, true, false, not, _&&_, _||_}
-use mathlib.Core.Logic.{_⊎_, inl, inr}
-use mathlib.Core.List.{List, [], _∷_, _++_, append-nil, List·Memᴰ as Member, List·Memᴰ·head as here, List·Memᴰ·eq-of-singleton}
-use Prim.Native.Nat.{ℕ, zero, suc, _≤_, _<_}
+use mathlib.Core.Bool.{Bool, not, _&&_, _||_}
+use mathlib.Core.List.{List, [], _∷_, List·Memᴰ as Member, List·Memᴰ·head as here, List·Memᴰ·eq-of-singleton}
+use Prim.Native.Nat.{ℕ, _≤_, _<_}
 use native.Mathlib.Omega.{arith}
 use lib.Dec.{eqb}
-use lib.ListN.{length, getD, length-append, List·getD-append}
-use lib.Seq.{getD-at}
-use Rattle.network.specs.Lists.{select, count}
+use lib.ListN.{getD}
+use Rattle.network.specs.Lists.{count}
 use Rattle.network.specs.Plane.{Run}
 use Rattle.network.specs.Grid.{Rising}
 use Rattle.network.specs.Graph.{below, degree, isCentre, centres, IsCentre}
-use Rattle.network.proofs.Numbers.{order}
-use Rattle.network.proofs.Lists.{selected-member, index-member}
 use Rattle.network.proofs.Centres.{centres-first, first-centres, centres-none, none-centres}
-use Rattle.network.proofs.Leaves.{below-member, below-rises}
+use Rattle.network.proofs.Leaves.{below-member}
+use Rattle.network.specs.Entries.{below-rises, length-table, getD-table}
 use Rattle.grid.specs.Tables.{table}
-use Rattle.grid.proofs.Tables.{length-table, getD-table, getD-padded}
+use Rattle.grid.proofs.Tables.{getD-padded}
 use Rattle.intersection.specs.declared.Star.{Star}
 use Rattle.intersection.specs.declared.Star.the-variants.{Centre, NoStar}
 use Rattle.intersection.specs.Sets.{has, members, pack, everyone}
 use Rattle.intersection.specs.Star.{meetsIn, neighbourSets, joinedIn, starOf}
 use Rattle.intersection.proofs.Digits.{has-pack}
-use Rattle.intersection.proofs.Lists.{kept, select-append, select-cons, select-cong, every-cong}
+use Rattle.intersection.proofs.Lists.{select-cong, every-cong}
 use Rattle.intersection.proofs.Members.{count-pack, members-first}
 
 -- ---- the members of a set rise
-
--- a rising list goes on with a number above all of it
-rising-last : (l : List ℕ) (v : ℕ) → Rising l → ((i : ℕ) → i < length l → getD l i 0 < v) → Rising (l ++ (v ∷ []))
-rising-last l v r h i k = go (order (length l) (suc i))
-  where
-    go : (length l ≤ suc i) ⊎ (suc i < length l) → getD (l ++ (v ∷ [])) i 0 < getD (l ++ (v ∷ [])) (suc i) 0
-    go (inl m) =
-        let e : length l ≡ suc i = omega (arith, length-append l (v ∷ [])) in
-        rw (List·getD-append l (v ∷ []) 0 i (omega arith), getD-at l v [] 0 (suc i) e) (h i (omega arith))
-    go (inr m) = rw (List·getD-append l (v ∷ []) 0 i (omega arith), List·getD-append l (v ∷ []) 0 (suc i) m) (r i m)
-
--- the numbers below n that pass a test rise
-select-rises : (t : ℕ → Bool) (n : ℕ) → Rising (select t (below n))
-select-rises t zero = λ i k. absurd (omega arith)
-select-rises t (suc n) = rw (select-append t (below n) (n ∷ []), select-cons t n []) (go (t n) (select-rises t n))
-  where
-    under : (i : ℕ) → i < length (select t (below n)) → getD (select t (below n)) i 0 < n
-    under i h = below-member n (getD (select t (below n)) i 0) (selected-member t (below n) (index-member 0 (select t (below n)) i h) .0)
-
-    go : (b : Bool) → Rising (select t (below n)) → Rising (select t (below n) ++ kept b n [])
-    go true r = rising-last (select t (below n)) n r under
-    go false r = rw append-nil r
-
--- so do a set's members
-pub members-rise : (s : ℕ) → Rising (members s)
-unfolding members
-members-rise s = select-rises (has s) 32
 
 -- ---- the answer
 

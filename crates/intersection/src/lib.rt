@@ -3,7 +3,7 @@ pub mod sets;
 
 ghost use mathlib.Core.Path.{_≡_};
 ghost use Prim.Native.Nat.{_+_, _≤_, _<_};
-ghost use Rattle.grid.specs.Runs.{runsOf};
+ghost use Rattle.grid.specs.Runs.{runsHeld};
 ghost use Rattle.network.specs.Lists.{every};
 ghost use Rattle.network.specs.Graph.{below, degree, isCentre, centres};
 ghost use Rattle.intersection.specs.Sets.{members, pack};
@@ -112,7 +112,7 @@ pub fn neighbours(
     n: usize,
 ) -> [u32; 32]
     requires { ⌜ n ≤ 32 ⌝ }
-    ensures { λ r. ⌜ r ≡ neighbourSets (meetsIn (runsOf (now (x1 .entry)) (now (y1 .entry)) (now (x2 .entry)) (now (y2 .entry)) n)) n ⌝ }
+    ensures { λ r. ⌜ r ≡ neighbourSets (meetsIn (runsHeld (now (x1 .entry)) (now (y1 .entry)) (now (x2 .entry)) (now (y2 .entry)) n)) n ⌝ }
 {
     let x = box_sides(x1, x2);
     let y = box_sides(y1, y2);

@@ -8,7 +8,6 @@ use borrow.Author.Tests.{leb-true, leb-false}
 use lib.Dec.{leb}
 use lib.ListN.{length, length-map, getD, take}
 use lib.Seq.{length-take-le}
-use Rattle.network.specs.Lists.{All}
 use Rattle.network.specs.Plane.{Point, Run, gap}
 use Rattle.network.specs.Grid.{Grid}
 use Rattle.network.specs.Route.{Manhattan}
@@ -24,15 +23,16 @@ use Rattle.sharing.specs.Star.{starOf, Best}
 use Rattle.sharing.specs.View.{lines, Indexed}
 use Rattle.sharing.proofs.Theorem.{star-best}
 use Rattle.route.specs.declared.Route.{Route}
-use Rattle.route.specs.Route.{stepsOf, lane, columnsOf, rowsOf, drawnOf, OnGrid, numbered, length-below}
+use Rattle.route.specs.Route.{stepsOf, lane, columnsOf, rowsOf, drawnOf, OnGrid}
 use Rattle.table.specs.declared.side.Side.{Side}
 use Rattle.table.specs.Side.{firstOf, secondOf}
-use Rattle.table.specs.OnLines.{firstAt, secondAt, OnLines, viewBy, boxBy}
-use Rattle.table.proofs.Survey.{lines-centred}
+use Rattle.table.specs.OnSides.{firstAt, secondAt, OnSides, viewBy, boxBy}
+use Rattle.table.proofs.Survey.{sides-centred}
 use Rattle.layout.specs.declared.Points.{Points}
 use Rattle.layout.specs.Points.{pointsOf}
-use Rattle.layout.specs.Laid.{unlaid, Layable, AllLayable, Laid, AllLaid}
-use Rattle.layout.proofs.Lists.{all-taken, mapped-at}
+use Rattle.route.proofs.Lanes.{lane-extent}
+use Rattle.layout.specs.Laid.{unlaid, Layable, Laid, AllLaid}
+use Rattle.layout.proofs.Lists.{mapped-at}
 use Rattle.layout.proofs.Laying.{leads-apart}
 use Rattle.layout.proofs.Fitting.{steps-lifted, steps-are, traced-layable}
 
@@ -48,11 +48,6 @@ lane-fits l p q h k = go (leb p q) refl
     go : (b : Bool) → leb p q ≡ b → Fits l (lane b p (gap p q))
     go true e = omega (arith, gap-rise p q (leb-true p q e))
     go false e = let o = leb-false p q e in omega (arith, gap-fall p q (omega arith))
-
--- it is as long as they are apart
-lane-extent : (b : Bool) (p n : ℕ) → extent (lane b p n) ≡ n
-lane-extent true p n = refl
-lane-extent false p n = refl
 
 -- it begins at the one line
 lane-from : (b : Bool) (p n : ℕ) → at (lane b p n) 0 ≡ p
@@ -87,18 +82,7 @@ module _ (a e : Points) (c : ℕ) (moves : List Move) (k : ℕ) (r : Route) (S :
         rows-fit = rw rows-are (lane-fits (g .rows) (e .y .first) (e .y .second) (y .0) (y .1));
       }
 
-  -- and on the grid of indexes
-  pub laid-numbered : OnGrid numbered r
-  unfolding numbered
-  laid-numbered = laid-on-grid numbered (rw length-below (S .in-columns)) (rw length-below (S .in-rows))
-
 -- ---- all routes
-
--- the routes that are laid are on the grid of indexes
-pub all-numbered : (xs ys : Side) (n c : ℕ) (moves : List Move) (routes : List Route) → n ≤ length routes → AllLayable xs ys n c moves → AllLaid xs ys n c moves routes
-    → All (OnGrid numbered) (take n routes)
-all-numbered xs ys n c moves routes h fit all =
-    all-taken (OnGrid numbered) n routes unlaid h (λ k i. laid-numbered (pointsOf xs ys c) (pointsOf xs ys k) c moves k (getD routes k unlaid) (fit .layable k i) (all .laid k i))
 
 -- ---- on the grid of the runs
 
@@ -106,7 +90,7 @@ all-numbered xs ys n c moves routes h fit all =
 vertex-at : (g : Grid) (p : Point) (i : Dir → ℕ) → Indexed g p i → vertex g (i hor) (i ver) ≡ p
 vertex-at g p i x = point-path (x .at-line hor) (x .at-line ver)
 
-module _ (g : Grid) (runs : List Run) (xs ys : Side) (c leaves : ℕ) (S : OnLines g runs xs ys c leaves) (moves : List Move) where
+module _ (g : Grid) (runs : List Run) (xs ys : Side) (c leaves : ℕ) (S : OnSides g runs xs ys c leaves) (moves : List Move) where
   -- a route that is laid has a frame of its run
   pub laid-frame : (k : ℕ) → k < length runs → (r : Route) → Layable (pointsOf xs ys c) (pointsOf xs ys k) c moves k
       → Laid (pointsOf xs ys c) (pointsOf xs ys k) c moves k r → Frame g (runAt runs k) (columnsOf r) (rowsOf r)
@@ -139,7 +123,7 @@ module _ (g : Grid) (runs : List Run) (xs ys : Side) (c leaves : ℕ) (S : OnLin
     laid-best =
         let v = viewBy g xs ys c in
         let box = boxBy g xs ys c in
-        let C = lines-centred g runs xs ys c leaves S h star in
+        let C = sides-centred g runs xs ys c leaves S h star in
         let all = traced-layable g runs xs ys c leaves S few C star T moves traced in
         let route : ℕ → Route = λ k. getD routes k unlaid in
         star-best v runs box c C T moves traced (λ k. columnsOf (route k)) (λ k. rowsOf (route k))

@@ -17,7 +17,7 @@ use Rattle.sharing.specs.Trace.{Move}
 use Rattle.sharing.specs.Walk.{dirs, moved}
 use Rattle.sharing.specs.Leaf.{isWith, before, stretch}
 use Rattle.sharing.proofs.Leaf.{moved-append}
-use Rattle.route.proofs.Steps.{steps-all}
+use Rattle.network.proofs.StepCounts.{steps-all}
 use Rattle.layout.specs.declared.Stretch.{Stretch}
 use Rattle.table.specs.Walk.{dirBy, shareIf, moveBy, moveAt}
 use Rattle.layout.specs.Stretch.{alongRow, nothing, grown, Found}

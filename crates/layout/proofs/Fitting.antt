@@ -25,7 +25,7 @@ use Rattle.sharing.specs.Star.{starOf, Centred, stepsOf}
 use Rattle.sharing.proofs.Leaf.{leaf-leads}
 use Rattle.sharing.proofs.Centre.{leaf-is, separate}
 use Rattle.table.specs.declared.side.Side.{Side}
-use Rattle.table.specs.OnLines.{firstAt, secondAt, OnLines, viewBy, boxBy}
+use Rattle.table.specs.OnSides.{firstAt, secondAt, OnSides, viewBy, boxBy}
 use Rattle.layout.specs.Points.{pointsOf, goesBack, box64}
 use Rattle.layout.specs.Laid.{stepsBy, AllLayable}
 use Rattle.layout.proofs.Consecutive.{kept-together}
@@ -38,7 +38,7 @@ number-lifted false n i h k = omega arith
 
 -- ---- the boxes
 
-module _ (g : Grid) (runs : List Run) (xs ys : Side) (c leaves : ℕ) (S : OnLines g runs xs ys c leaves) (few : (d : Dir) → length (lines g d) ≤ 64) where
+module _ (g : Grid) (runs : List Run) (xs ys : Side) (c leaves : ℕ) (S : OnSides g runs xs ys c leaves) (few : (d : Dir) → length (lines g d) ≤ 64) where
   -- how much higher the lines are counted that the code works with
   lift : Dir → ℕ
   lift d = cond (viewBy g xs ys c .flip d) (64 - length (lines g d)) 0

@@ -13,7 +13,7 @@ use Rattle.network.specs.Plane.{gap}
 use Rattle.network.specs.Steps.{Dir, hor, ver, steps}
 use Rattle.sharing.specs.Trace.{Move}
 use Rattle.sharing.specs.Walk.{dirs, moved}
-use Rattle.sharing.specs.Leaf.{before, stretch, forward, turnIf, via}
+use Rattle.sharing.specs.Leaf.{before, stretch, turnIf, via}
 use Rattle.sharing.specs.View.{index}
 use Rattle.table.specs.declared.trace.Trace.{Trace}
 use Rattle.table.specs.Walk.{movesOf}
@@ -21,7 +21,7 @@ use Rattle.table.proofs.Lines.{gap-lt}
 use Rattle.route.specs.declared.Route.{Route}
 use Rattle.route.specs.declared.Vertex.{Vertex}
 use Rattle.route.specs.Route.{dirOf, stepsOf}
-use Rattle.route.proofs.Steps.{steps-all}
+use Rattle.network.proofs.StepCounts.{steps-all}
 use Rattle.layout.specs.declared.Points.{Points}
 use Rattle.layout.specs.declared.Stretch.{Stretch}
 use Rattle.layout.specs.declared.Way.{Way}

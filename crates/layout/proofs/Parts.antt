@@ -9,14 +9,14 @@ use native.Mathlib.Omega.{arith}
 use borrow.Author.Tests.{ne-eqb}
 use lib.ListN.{length, length-append, length-map, length-take, getD, take, drop}
 use lib.Seq.{take-suc, take-take, drop-append-seam, slice}
-use Rattle.network.specs.Steps.{ver, steps}
+use Rattle.network.specs.Steps.{ver}
 use Rattle.sharing.specs.Trace.{Move}
 use Rattle.sharing.specs.Walk.{dirs, moved}
 use Rattle.sharing.specs.Leaf.{before, stretch}
 use Rattle.table.specs.declared.trace.Trace.{Trace}
 use Rattle.table.specs.Walk.{dirBy, moveAt, movesOf}
 use Rattle.route.specs.Route.{dirOf}
-use Rattle.route.proofs.Steps.{steps-all}
+use Rattle.network.proofs.StepCounts.{steps-all}
 use Rattle.layout.specs.declared.Stretch.{Stretch}
 use Rattle.layout.specs.Stretch.{Found, Together}
 use Rattle.layout.proofs.Finding.{firstMoves, moves-length, moved-few}

@@ -8,7 +8,7 @@ use lib.Dec.{eqb, leb}
 use lib.ListN.{length, length-append, length-reverse}
 use Rattle.network.specs.Steps.{Dir, hor, ver, steps}
 use Rattle.sharing.specs.Box.{Box}
-use Rattle.sharing.specs.Leaf.{before, forward, turnIf, via}
+use Rattle.sharing.specs.Leaf.{forward, turnIf, via}
 use Rattle.route.specs.Route.{dirOf}
 use Rattle.layout.specs.declared.Way.{Way}
 use Rattle.layout.specs.Way.{wayOf, passesForth, legOf, waySteps}

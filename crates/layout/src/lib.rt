@@ -3,6 +3,7 @@
 // the leaf that it is shared with (32 or above: none).
 use route::Route;
 use route::Vertex;
+use table::frame::gap;
 use table::side::Side;
 use table::side::wide;
 use table::trace::Trace;
@@ -49,13 +50,6 @@ pub struct Way {
     pub before: usize,
     pub after: usize,
     pub forward: bool,
-}
-
-// How far apart two lines are.
-fn gap(a: usize, b: usize) -> usize
-    ensures { λ r. ⌜ r ≡ gap a b ⌝ }
-{
-    if a < b { b - a } else { a - b }
 }
 
 // ---- a route that grows

@@ -5,10 +5,11 @@
 use mathlib.Core.Path.{_≡_, refl, ap, ap₂, _∙_, subst}
 use mathlib.Core.List.{List, [], _∷_}
 use mathlib.Core.Bool.{Bool, true, false, cond, _||_}
-use Prim.Native.Nat.{ℕ, pred, _+_, _*_, _≤_}
+use Prim.Native.Nat.{ℕ, suc, pred, _+_, _*_, _≤_}
 use native.Mathlib.Nat.{zero-add, add-comm}
 use native.Mathlib.Numerals.{add-one}
 use native.Mathlib.Omega.{arith}
+use lib.ListN.{length}
 use Rattle.network.specs.Lists.{sum, any, count, All}
 use Rattle.network.specs.Plane.{Point, Run, distance}
 use Rattle.network.specs.Grid.{Grid, Edge, across, upward, len, edges}
@@ -58,10 +59,15 @@ route-length g run route m =
     ∙ ap₂ _+_ (route-length-in hor g run route m) (route-length-in ver g run route m)
 
 -- and those of all routes as long as the distances of all runs
-routes-length : (g : Grid) (runs : List Run) (routes : List Route) → Routes g runs routes
+routes-sum : (g : Grid) (runs : List Run) (routes : List Route) → Routes g runs routes
     → sum (λ route. selected g len (λ e. on e route)) routes ≡ sum distance runs
+routes-sum g [] [] m = refl
+routes-sum g (run ∷ runs) (route ∷ routes) m = ap₂ _+_ (route-length g run route (m .0)) (routes-sum g runs routes (m .1))
+
+-- there are as many routes as runs
+pub routes-length : (g : Grid) (runs : List Run) (routes : List Route) → Routes g runs routes → length routes ≡ length runs
 routes-length g [] [] m = refl
-routes-length g (run ∷ runs) (route ∷ routes) m = ap₂ _+_ (route-length g run route (m .0)) (routes-length g runs routes (m .1))
+routes-length g (run ∷ runs) (route ∷ routes) m = ap suc (routes-length g runs routes (m .1))
 
 -- ---- one edge
 
@@ -100,7 +106,7 @@ counting g runs routes m =
       sum-cong _ _ (edges g) (λ e m. once-and-more (on e) (len e) routes),
       sum-cong _ _ (edges g) (λ e m. count-times (on e) (len e) routes),
       sum-swap (λ route e. cond (on e route) (len e) 0) routes (edges g),
-      routes-length g runs routes m,
+      routes-sum g runs routes m,
     )
 
 -- so routes with the most excess are a least plan

@@ -1,12 +1,10 @@
--- Stars of runs: no grid edge lies in the boxes of two leaves, and a run whose points coincide stands alone.
-use mathlib.Core.Path.{_≡_, refl, sym, _∙_, subst}
+-- Stars of runs: no grid edge lies in the boxes of two leaves.
+use mathlib.Core.Path.{_≡_, refl, sym, _∙_}
 use mathlib.Core.List.{List, [], _∷_, _++_, map, List·Memᴰ as Member, List·Memᴰ·head as here, List·Memᴰ·tail as there, List·Memᴰ·eq-of-singleton}
-use mathlib.Core.Bool.{true, false, true≢false}
+use mathlib.Core.Bool.{false, true≢false}
 use Prim.Native.Nat.{ℕ, zero, suc, _≤_, _<_}
-use native.Mathlib.Decide.{ℕ-discrete}
 use native.Mathlib.Omega.{arith}
-use lib.ListN.{length, getD, length-append, List·getD-append}
-use lib.Seq.{getD-at}
+use lib.ListN.{length, length-append}
 use Rattle.network.specs.Lists.{All}
 use Rattle.network.specs.Plane.{Run}
 use Rattle.network.specs.Grid.{Rising, Grid}
@@ -15,35 +13,19 @@ use Rattle.network.specs.Apart.{Apart}
 use Rattle.network.proofs.Tests.{is-false}
 use Rattle.network.proofs.Lists.{each-member, member-each}
 use Rattle.network.proofs.Rising.{rising-head, rising-tail}
-use Rattle.network.proofs.Meeting.{meets-true, true-meets, overlap-comm, point-overlap}
+use Rattle.network.proofs.Meeting.{true-meets}
 
 -- ---- the group of all runs
 
--- the numbers below n are its members, and rise
+-- its members are below n
 pub below-member : (n i : ℕ) → Member i (below n) → i < n
 below-member n i m =
     let (j, h, o) = each-member n (λ i. i ∷ []) m in
     omega (arith, List·Memᴰ·eq-of-singleton o)
 
+-- and every number below n is a member
 pub member-below : (n i : ℕ) → i < n → Member i (below n)
 member-below n i h = member-each n (λ i. i ∷ []) i h (here refl)
-
-length-below : (n : ℕ) → length (below n) ≡ n
-length-below zero = refl
-length-below (suc n) = omega (arith, length-append (below n) (n ∷ []), length-below n)
-
-below-at : (n i : ℕ) → i < n → getD (below n) i 0 ≡ i
-below-at zero i h = absurd (omega arith)
-below-at (suc n) i h = go (ℕ-discrete i n) (below-at n i)
-  where
-    go : Dec (i ≡ n) → (i < n → getD (below n) i 0 ≡ i) → getD (below n ++ n ∷ []) i 0 ≡ i
-    go (yes e) rest = getD-at (below n) n [] 0 i (length-below n ∙ sym e) ∙ sym e
-    go (no e) rest = List·getD-append (below n) (n ∷ []) 0 i (omega (arith, length-below n)) ∙ rest (omega arith)
-
-pub below-rises : (n : ℕ) → Rising (below n)
-below-rises n i h =
-    let k : suc i < n = omega (arith, length-below n) in
-    omega (arith, below-at n i (omega arith), below-at n (suc i) k)
 
 -- ---- leaves
 
@@ -53,22 +35,6 @@ module _ (g : Grid) (runs : List Run) (group : List ℕ) (c : ℕ) (k : IsCentre
       → overlap g (runAt runs i) (runAt runs j) ≡ false
   leaves-overlap i j m n p q d =
       is-false (overlap g (runAt runs i) (runAt runs j)) (λ h. true≢false (sym (true-meets g runs i j d h) ∙ k .leaves i j m n p q))
-
-  -- the centre overlaps every leaf
-  pub centre-overlap : (i : ℕ) → Member i group → (i ≡ c → ⊥) → overlap g (runAt runs c) (runAt runs i) ≡ true
-  centre-overlap i m n = meets-true g runs c i (k .joins i m n) .1
-
-  -- a run whose points coincide stands alone
-  pub point-alone : (i : ℕ) → Member i group → runAt runs i .first ≡ runAt runs i .second → (j : ℕ) → Member j group → j ≡ i
-  point-alone i m p j n = go (ℕ-discrete i c) (ℕ-discrete j i)
-    where
-      go : Dec (i ≡ c) → Dec (j ≡ i) → j ≡ i
-      go d (yes e) = e
-      go (yes e) (no q) =
-          absurd (true≢false (sym (centre-overlap j n (λ u. q (u ∙ sym e))) ∙ point-overlap g (runAt runs c) (runAt runs j)
-          (subst (λ h. runAt runs h .first ≡ runAt runs h .second) e p)))
-      go (no d) (no q) =
-          absurd (true≢false (sym (centre-overlap i m d) ∙ overlap-comm g (runAt runs c) (runAt runs i) ∙ point-overlap g (runAt runs i) (runAt runs c) p))
 
   -- leaves with rising numbers are apart
   pub group-apart : (is : List ℕ) → Rising is → ((i : ℕ) → Member i is → Member i group × (i ≡ c → ⊥)) → Apart g (map (runAt runs) is)

@@ -10,6 +10,7 @@ pub mod Along
 pub mod Joining
 pub mod Lanes
 pub mod Steps
+pub mod StepCounts
 pub mod Drawn
 pub mod Counting
 pub mod Corners

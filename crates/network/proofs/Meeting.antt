@@ -3,10 +3,10 @@
 -- What two boxes have in common is the rectangle from the greater of the low sides to the lesser of the high sides, in x and in y. An edge in both
 -- boxes lies in that rectangle and has a length, so the rectangle is more than a point. Where it is, say in x, its lower left corner is a vertex,
 -- since all sides are lines of the grid; the edge from there along the row ends at the next column, which is at most the rectangle's right side.
-use mathlib.Core.Path.{_≡_, refl, sym, ap, _∙_, subst}
+use mathlib.Core.Path.{_≡_, refl, sym, ap, subst}
 use mathlib.Core.Logic.{_⊎_, inl, inr, ⊎-map, ⊎-elim}
 use mathlib.Core.List.{List}
-use mathlib.Core.Bool.{true, false, not, _&&_, _||_, and-comm, true≢false}
+use mathlib.Core.Bool.{true, false, not, _&&_, _||_, and-comm}
 use Prim.Native.Nat.{ℕ, suc, _≤_, _<_, min, max}
 use native.Mathlib.Nat.{le-of-eq, le-trans, le-min, max-le, min-le-left, min-le-right, le-max-left, le-max-right}
 use native.Mathlib.Omega.{arith}
@@ -36,10 +36,6 @@ overlap-edge g r s h =
 pub edge-overlap : (g : Grid) (r s : Run) (e : Edge) → OfGrid g e → inside e r ≡ true → inside e s ≡ true → overlap g r s ≡ true
 unfolding overlap
 edge-overlap g r s e o h k = any-edges g (λ e. inside e r && inside e s) e o (and-join (inside e r) (inside e s) h k)
-
--- where runs do not overlap there is none
-pub no-overlap : (g : Grid) (r s : Run) → overlap g r s ≡ false → (e : Edge) → OfGrid g e → inside e r ≡ true → inside e s ≡ true → ⊥
-no-overlap g r s n e o h k = true≢false (sym (edge-overlap g r s e o h k) ∙ n)
 
 -- the order of the two does not matter
 pub overlap-comm : (g : Grid) (r s : Run) → overlap g r s ≡ overlap g s r
@@ -158,14 +154,6 @@ meets-is g runs i j u v = ap (λ t. not (eqb i j) && t) (overlap-is g (runAt run
 pub meets-self : (g : Grid) (runs : List Run) (i : ℕ) → meets g runs i i ≡ false
 unfolding meets
 meets-self g runs i = rw (eq-eqb i i refl)
-
-pub meets-comm : (g : Grid) (runs : List Run) (i j : ℕ) → meets g runs i j ≡ meets g runs j i
-meets-comm g runs i j = same-test (meets g runs i j) (meets g runs j i) (turn i j) (turn j i)
-  where
-    turn : (i j : ℕ) → meets g runs i j ≡ true → meets g runs j i ≡ true
-    turn i j h =
-        let (n, o) = meets-true g runs i j h in
-        true-meets g runs j i (λ e. n (sym e)) (overlap-comm g (runAt runs j) (runAt runs i) ∙ o)
 
 -- a run whose points coincide meets nothing
 point-inside : (g : Grid) (p : Point) (e : Edge) → OfGrid g e → inside e (p to p) ≡ true → ⊥

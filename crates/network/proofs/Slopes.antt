@@ -7,10 +7,10 @@
 use mathlib.Core.Path.{_≡_, refl, sym, _∙_, subst}
 use mathlib.Core.Logic.{_⊎_, inl, inr}
 use mathlib.Core.List.{List, [], _∷_}
-use mathlib.Core.Bool.{Bool, true, false, _&&_, _||_, or-true, true≢false, false≢true}
+use mathlib.Core.Bool.{Bool, true, false, _&&_, _||_, true≢false, false≢true}
 use Prim.Native.Nat.{ℕ, _≤_, _<_}
 use native.Mathlib.Omega.{arith}
-use borrow.Author.Tests.{leb-true, le-leb}
+use borrow.Author.Tests.{leb-true}
 use lib.Dec.{leb}
 use Rattle.network.specs.Lists.{any}
 use Rattle.network.specs.Plane.{Point, Run, _to_}
@@ -108,17 +108,6 @@ slopes-true regular r h =
     tests (r .first .x) (r .second .x) (r .first .y) (r .second .y) (r .second .x) (r .first .x) (r .second .y) (r .first .y) right-up left-down h
 slopes-true flipped r h =
     tests (r .first .x) (r .second .x) (r .second .y) (r .first .y) (r .second .x) (r .first .x) (r .first .y) (r .second .y) right-down left-up h
-
-pub true-slopes : (s : Slope) (r : Run) → Sloped s r → slopes s r ≡ true
-unfolding slopes
-true-slopes s r (right-up a b) = rw (le-leb (r .first .x) (r .second .x) a, le-leb (r .first .y) (r .second .y) b)
-true-slopes s r (left-down a b) =
-    rw (le-leb (r .second .x) (r .first .x) a, le-leb (r .second .y) (r .first .y) b)
-    (or-true (leb (r .first .x) (r .second .x) && leb (r .first .y) (r .second .y)))
-true-slopes s r (right-down a b) = rw (le-leb (r .first .x) (r .second .x) a, le-leb (r .second .y) (r .first .y) b)
-true-slopes s r (left-up a b) =
-    rw (le-leb (r .second .x) (r .first .x) a, le-leb (r .first .y) (r .second .y) b)
-    (or-true (leb (r .first .x) (r .second .x) && leb (r .second .y) (r .first .y)))
 
 -- a straight run has both slopes
 pub straight-sloped : (s : Slope) (r : Run) → Straight r → Sloped s r

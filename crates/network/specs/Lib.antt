@@ -7,6 +7,7 @@ pub mod DistinctRises
 pub mod Hanan
 pub mod Route
 pub mod Graph
+pub mod Entries
 pub mod Excess
 pub mod Steps
 pub mod Corners

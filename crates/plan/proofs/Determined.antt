@@ -16,7 +16,7 @@ use Rattle.job.proofs.Signed.{biased-of-word}
 use Rattle.plan.specs.declared.Head.{Head}
 use Rattle.plan.specs.Records.{cornerRecord, endRecord}
 use Rattle.plan.specs.Plan.{Entry, entryBytes, totalCorners, bookBytes}
-use Rattle.plan.specs.Fits.{PointIn, EntryFits, HeadFits}
+use Rattle.plan.specs.Fits.{PointIn, HeadFits}
 
 -- ---- fields
 
@@ -75,12 +75,11 @@ no-corner (e ∷ es) r m c = omega arith
 abbrev cornersIn : List Entry → List Route
 cornersIn es = map (λ e. e .corners) es
 
--- the entries up to the end record have the same corners, and are the same where their figures fit
+-- the entries up to the end record have the same corners
 same-entries : (es fs : List Entry) (r s : List ℕ) → All (All PointIn) (cornersIn es) → All (All PointIn) (cornersIn fs) → Ends r → Ends s
-    → flatMap entryBytes es ++ r ≡ flatMap entryBytes fs ++ s
-    → (cornersIn es ≡ cornersIn fs) × (All EntryFits es → All EntryFits fs → es ≡ fs) × (r ≡ s)
+    → flatMap entryBytes es ++ r ≡ flatMap entryBytes fs ++ s → cornersIn es ≡ cornersIn fs
 unfolding flatMap
-same-entries [] [] r s a b m n e = (refl, λ h k. refl, e)
+same-entries [] [] r s a b m n e = refl
 same-entries [] (f ∷ fs) r s a b m n e =
     let z : _≡_ {A = ℕ} 0x5A 0x4E = sym m ∙ ap (λ l. getD l 0 0) e in
     absurd (omega arith)
@@ -90,31 +89,15 @@ same-entries (x ∷ es) [] r s a b m n e =
 same-entries (x ∷ es) (y ∷ fs) r s a b m n e =
     let c = sym (append-assoc (flatMap cornerRecord (x .corners)) (flatMap entryBytes es) r) ∙ ap (drop 7) e ∙ append-assoc (flatMap cornerRecord (y .corners)) (flatMap entryBytes fs) s in
     let t = same-corners (x .corners) (y .corners) (flatMap entryBytes es ++ r) (flatMap entryBytes fs ++ s) (a .0) (b .0) (no-corner es r m) (no-corner fs s n) c in
-    let u = same-entries es fs r s (a .1) (b .1) m n (t .1) in (
-      cc (t .0, u .0),
-      λ h k.
-          let p = same2 (x .number) (y .number) _ _ (h .0 .number-fits) (k .0 .number-fits) (ap (drop 1) e) in
-          let q = same2 (x .meets) (y .meets) _ _ (h .0 .meets-fits) (k .0 .meets-fits) (ap (drop 3) e) in
-          let o : x ≡ y = λ i. record { number = p i; meets = q i; corners = t .0 i } in
-          cc (o, u .1 (h .1) (k .1)),
-      u .2,
-    )
+    cc (t .0, same-entries es fs r s (a .1) (b .1) m n (t .1))
 
 -- ---- the whole plan
 
-module _ (g h : Head) (es fs : List Entry) (a : All (All PointIn) (cornersIn es)) (b : All (All PointIn) (cornersIn fs)) (e : bookBytes g es ≡ bookBytes h fs) where
-  -- both plans, read off from behind the head
-  read-off : (cornersIn es ≡ cornersIn fs) × (All EntryFits es → All EntryFits fs → es ≡ fs) × (endRecord (totalCorners es) ≡ endRecord (totalCorners fs))
-  unfolding bookBytes
-  read-off = same-entries es fs (endRecord (totalCorners es)) (endRecord (totalCorners fs)) a b refl refl (ap (drop 19) e)
-
-  -- Two plans with the same bytes have the same corners.
-  pub book-corners : cornersIn es ≡ cornersIn fs
-  book-corners = read-off .0
-
-  -- and the same numbers and meets figures, where these fit their fields
-  pub book-entries : All EntryFits es → All EntryFits fs → es ≡ fs
-  book-entries = read-off .1
+-- Two plans with the same bytes have the same corners: what stands behind the head is read off.
+pub book-corners : (g h : Head) (es fs : List Entry) → All (All PointIn) (cornersIn es) → All (All PointIn) (cornersIn fs) → bookBytes g es ≡ bookBytes h fs
+    → cornersIn es ≡ cornersIn fs
+unfolding bookBytes
+book-corners g h es fs a b e = same-entries es fs (endRecord (totalCorners es)) (endRecord (totalCorners fs)) a b refl refl (ap (drop 19) e)
 
 -- Two plans with the same bytes have the same figures, where these fit their fields.
 pub book-head : (g h : Head) (es fs : List Entry) → HeadFits g → HeadFits h → bookBytes g es ≡ bookBytes h fs → g ≡ h

@@ -11,6 +11,7 @@ use Rattle.network.specs.Grid.{Grid}
 use Rattle.network.specs.Hanan.{hanan}
 use Rattle.network.specs.Route.{Route, Routes}
 use Rattle.network.specs.Corners.{corners}
+use Rattle.network.proofs.Counting.{routes-length}
 use Rattle.route.specs.declared.Route.{Route as Steps}
 use Rattle.route.specs.Route.{OnGrid, drawnOf, cornersOf, placed, Tables}
 use Rattle.route.proofs.Lists.{map-cong}
@@ -85,13 +86,11 @@ plan-written job numbers runs columns rows ns ms routes head fc fr t a h f =
 
 -- ---- no plan is long
 
--- Manhattan routes are as many as their runs, and have at most 127 corners each
+-- Manhattan routes have at most 127 corners each
 pub routes-few : (g : Grid) → length (g .columns) ≤ 64 → length (g .rows) ≤ 64 → (runs : List Run) (routes : List Route) → Routes g runs routes
-    → (length routes ≡ length runs) × All (λ c. length c ≤ 127) (map corners routes)
-routes-few g h k [] [] m = (refl, tt)
-routes-few g h k (run ∷ runs) (route ∷ routes) m =
-    let t = routes-few g h k runs routes (m .1) in
-    (ap suc (t .0), (omega (arith, manhattan-few g run route (m .0)), t .1))
+    → All (λ c. length c ≤ 127) (map corners routes)
+routes-few g h k [] [] m = tt
+routes-few g h k (run ∷ runs) (route ∷ routes) m = (omega (arith, manhattan-few g run route (m .0)), routes-few g h k runs routes (m .1))
 
 -- No plan of at most 32 runs on at most 64 columns and 64 rows exceeds 36,822 bytes, whatever Manhattan routes it has.
 pub plan-most : (job : ℕ) (numbers : List ℕ) (runs : List Run) (routes : List Route) → length runs ≤ 32 → length (hanan runs .columns) ≤ 64
@@ -99,7 +98,6 @@ pub plan-most : (job : ℕ) (numbers : List ℕ) (runs : List Run) (routes : Lis
 unfolding planBytes drawnBytes
 plan-most job numbers runs routes n h k m =
     let own = map corners routes in
-    let t = routes-few (hanan runs) h k runs routes m in
     book-most (headOf job numbers runs own) (entriesFrom (λ i. getD numbers i 0) (meetsOf runs) 0 own)
-    (omega (arith, entries-length (λ i. getD numbers i 0) (meetsOf runs) 0 own, length-map routes corners, t .0))
-    (entries-all (λ c. length c ≤ 127) (λ i. getD numbers i 0) (meetsOf runs) 0 own (t .1))
+    (omega (arith, entries-length (λ i. getD numbers i 0) (meetsOf runs) 0 own, length-map routes corners, routes-length (hanan runs) runs routes m))
+    (entries-all (λ c. length c ≤ 127) (λ i. getD numbers i 0) (meetsOf runs) 0 own (routes-few (hanan runs) h k runs routes m))

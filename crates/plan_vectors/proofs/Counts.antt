@@ -12,7 +12,7 @@ use Rattle.network.specs.Graph.{below}
 use Rattle.network.specs.Steps.{hor, ver, steps, Fits}
 use Rattle.route.specs.declared.Route.{Route}
 use Rattle.route.specs.Route.{stepsOf, lane, OnGrid, numbered}
-use Rattle.route.proofs.Steps.{steps-all, step-along, step-across}
+use Rattle.network.proofs.StepCounts.{steps-all, step-along, step-across}
 use Rattle.route.proofs.Walk.{steps-length, taken-next}
 
 module _ (r : Route) (full : length (r .steps) ≡ 128) (held : r .count ≤ 128) where

@@ -12,7 +12,8 @@ use Rattle.network.specs.Graph.{runAt, meets, below, isCentre}
 use Rattle.network.specs.Steps.{hor, ver}
 use Rattle.network.proofs.Hanan.{hanan-placed-at}
 use Rattle.network.proofs.Centres.{true-centre, centres-first}
-use Rattle.network.proofs.Leaves.{below-member, below-rises}
+use Rattle.network.proofs.Leaves.{below-member}
+use Rattle.network.specs.Entries.{below-rises}
 use Rattle.grid.specs.Lines.{axisOf}
 use Rattle.grid.proofs.Places.{position-line}
 use Rattle.sharing.specs.View.{Indexed, viewOf, boxOf}

@@ -8,17 +8,17 @@ use Rattle.network.specs.Lists.{sum}
 use Rattle.network.specs.Plane.{distance}
 use Rattle.network.proofs.Sums.{sum-append}
 use Rattle.grid.specs.Tables.{table}
-use Rattle.grid.specs.Runs.{runOf, runsOf}
+use Rattle.grid.specs.Runs.{runHeld, runsHeld}
 
 module _ (x1 y1 x2 y2 : List ℕ) where
   -- no runs, no distance
-  pub distances-none : sum distance (runsOf x1 y1 x2 y2 0) ≡ 0
-  unfolding runsOf
+  pub distances-none : sum distance (runsHeld x1 y1 x2 y2 0) ≡ 0
+  unfolding runsHeld
   distances-none = refl
 
   -- one run more
-  pub distances-more : (n : ℕ) → sum distance (runsOf x1 y1 x2 y2 (n + 1)) ≡ sum distance (runsOf x1 y1 x2 y2 n) + distance (runOf x1 y1 x2 y2 n)
-  unfolding runsOf
+  pub distances-more : (n : ℕ) → sum distance (runsHeld x1 y1 x2 y2 (n + 1)) ≡ sum distance (runsHeld x1 y1 x2 y2 n) + distance (runHeld x1 y1 x2 y2 n)
+  unfolding runsHeld
   distances-more n =
-      ap (λ (k : ℕ). sum distance (runsOf x1 y1 x2 y2 k)) (add-one n)
-      ∙ sum-append distance (table (runOf x1 y1 x2 y2) n) (runOf x1 y1 x2 y2 n ∷ []) ∙ omega arith
+      ap (λ (k : ℕ). sum distance (runsHeld x1 y1 x2 y2 k)) (add-one n)
+      ∙ sum-append distance (table (runHeld x1 y1 x2 y2) n) (runHeld x1 y1 x2 y2 n ∷ []) ∙ omega arith

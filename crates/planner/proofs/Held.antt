@@ -17,8 +17,8 @@ use Rattle.job.specs.Written.{Bytes, noRun, InRange, WellFormed}
 use Rattle.job.proofs.Columns.{column-entry, column-unused}
 use Rattle.job.proofs.Answered.{reading-accepts}
 use Rattle.grid.specs.Tables.{table}
-use Rattle.grid.specs.Runs as grid
-use Rattle.grid.proofs.Tables.{length-table, getD-table}
+use Rattle.grid.specs.Runs.{runsHeld}
+use Rattle.network.specs.Entries.{length-table, getD-table}
 use Rattle.planner.specs.Call.{runOf, runsOf, numbersOf}
 use Rattle.planner.specs.Held.{runIn, runsIn, Held}
 use Rattle.planner.specs.Coordinates.{RunsInRange}
@@ -76,8 +76,8 @@ map-table f g zero = refl
 map-table f g (suc n) = map-append f (table g n) (g n ∷ []) ∙ ap (λ l. l ++ (f (g n) ∷ [])) (map-table f g n)
 
 -- the runs in the plane are those of the four arrays
-pub plane-held : (j : Job) → runsOf (runsIn j) ≡ grid.runsOf (j .x1) (j .y1) (j .x2) (j .y2) (j .count)
-unfolding runsIn grid.runsOf
+pub plane-held : (j : Job) → runsOf (runsIn j) ≡ runsHeld (j .x1) (j .y1) (j .x2) (j .y2) (j .count)
+unfolding runsIn runsHeld
 plane-held j = map-table runOf (runIn j) (j .count)
 
 pub length-plane : (j : Job) → length (runsOf (runsIn j)) ≡ j .count

@@ -7,7 +7,8 @@ use lib.ListN.{length, getD}
 use Rattle.network.specs.Plane.{Run}
 use Rattle.network.specs.Graph.{below, degree, centres}
 use Rattle.grid.specs.Tables.{table, padded}
-use Rattle.grid.proofs.Tables.{length-table, getD-table, getD-padded}
+use Rattle.grid.proofs.Tables.{getD-padded}
+use Rattle.network.specs.Entries.{length-table, getD-table}
 use Rattle.intersection.specs.Star.{meetsIn, neighbourSets}
 use Rattle.intersection.specs.Star.{joinedIn, starOf}
 use Rattle.intersection.proofs.Members.{members-first}

@@ -20,9 +20,9 @@ use Rattle.table.specs.Rule.{tableOf, Ruled, figureOf, Beyond}
 use Rattle.table.specs.Rule as rule
 use Rattle.table.specs.Walk.{walked}
 use Rattle.table.proofs.Lines.{gap-lt}
-use Rattle.table.specs.OnLines.{viewBy, boxBy}
+use Rattle.table.specs.OnSides.{viewBy, boxBy}
 use Rattle.table.proofs.Star.{group-fit}
-use Rattle.table.proofs.Survey.{lines-centred, star-exact, star-figure, star-traced}
+use Rattle.table.proofs.Survey.{sides-centred, star-exact, star-figure, star-traced}
 use Rattle.route.specs.declared.Route.{Route}
 use Rattle.route.specs.Route.{OnGrid}
 use Rattle.layout.specs.Points.{pointsOf}
@@ -61,7 +61,7 @@ module _ (runs : List Run) (xs ys : Side) (n c leaves : ℕ) (L : StarSurveyed r
   group-asks = (few-runs, placed-x, placed-y, L .listed)
 
   centred : Centred (viewBy (hanan runs) xs ys c) runs (boxBy (hanan runs) xs ys c) c
-  centred = lines-centred (hanan runs) runs xs ys c leaves (L .surveyed) (in-list c (L .listed)) (L .star)
+  centred = sides-centred (hanan runs) runs xs ys c leaves (L .surveyed) (in-list c (L .listed)) (L .star)
 
   module _ (g : Group) (G : Grouped xs ys n c leaves g) where
     -- the table takes four words for each vertex, of at most 2 n columns and 2 n rows

@@ -21,8 +21,8 @@ use Rattle.job.specs.declared.Job.{Job}
 use Rattle.job.specs.declared.Refusal.{Refusal}
 use Rattle.job.specs.Parse.{parse}
 use Rattle.table.specs.Rule.{Beyond}
-use Rattle.table.specs.OnLines.{OnLines}
-use Rattle.table.proofs.Survey.{on-lines, short}
+use Rattle.table.specs.OnSides.{OnSides}
+use Rattle.table.proofs.Survey.{on-sides, short}
 use Rattle.plan.specs.Bytes.{over}
 use Rattle.plan.specs.Writers.{Wrote}
 use Rattle.planner.specs.declared.Answer.{Answer}
@@ -64,8 +64,8 @@ module _ (j : Job) (sets : List ℕ) (c : ℕ) (S : Starred j sets c) (x y : Sur
       let r = held-range j (S .held) in
       record {
         count = length-plane j;
-        surveyed = subst (λ rs. OnLines (hanan rs) rs (x .side) (y .side) c (getD sets c 0)) (sym e)
-            (on-lines (j .x1) (j .y1) (j .x2) (j .y2) (j .count) few (x .axis) (y .axis) (X .axis-is) (Y .axis-is) (x .side) (y .side) (X .side-is) (Y .side-is)
+        surveyed = subst (λ rs. OnSides (hanan rs) rs (x .side) (y .side) c (getD sets c 0)) (sym e)
+            (on-sides (j .x1) (j .y1) (j .x2) (j .y2) (j .count) few (x .axis) (y .axis) (X .axis-is) (Y .axis-is) (x .side) (y .side) (X .side-is) (Y .side-is)
             c (getD sets c 0) (λ k h. leaf-is k h ∙ ap (λ rs. meets (hanan rs) rs c k) e));
         few-lines = let f = subst (λ n. (length (hanan (runsOf (runsIn j)) .columns) ≤ n + n) × (length (hanan (runsOf (runsIn j)) .rows) ≤ n + n)) (length-held j) (lines-most (runsIn j)) in
             elim [ hor ↦ f .0 | ver ↦ f .1 ];

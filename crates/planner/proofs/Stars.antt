@@ -10,7 +10,7 @@ use Rattle.network.specs.Plane.{Run}
 use Rattle.network.specs.Hanan.{hanan}
 use Rattle.network.specs.Graph.{meets, below, centres}
 use Rattle.network.proofs.Centres.{centres-first, centres-none}
-use Rattle.network.proofs.Leaves.{below-rises}
+use Rattle.network.specs.Entries.{below-rises}
 use Rattle.job.specs.declared.Run.{Run as Read}
 use Rattle.job.specs.declared.Refusal.{Refusal}
 use Rattle.job.specs.declared.Refusal.the-variants.{NoStar}

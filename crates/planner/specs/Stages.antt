@@ -18,7 +18,7 @@ use Rattle.sharing.specs.View.{lines}
 use Rattle.sharing.specs.Star.{Best}
 use Rattle.table.specs.declared.side.Side.{Side}
 use Rattle.table.specs.Side.{Sided}
-use Rattle.table.specs.OnLines.{sideAt, OnLines}
+use Rattle.table.specs.OnSides.{sideAt, OnSides}
 use Rattle.table.specs.Rule.{Beyond}
 use Rattle.route.specs.Route.{drawnOf, OnGrid}
 use Rattle.planner.specs.declared.star.Survey.{Survey}
@@ -61,7 +61,7 @@ pub record Surveys (first second : List ℕ) (n : ℕ) (s : Survey) : Type 0 whe
 -- the sides have the runs of a star with the centre c, whose leaves are a set
 pub record StarSurveyed (runs : List Run) (xs ys : Side) (n c leaves : ℕ) : Type 0 where
   pub count : length runs ≡ n
-  pub surveyed : OnLines (hanan runs) runs xs ys c leaves
+  pub surveyed : OnSides (hanan runs) runs xs ys c leaves
   pub few-lines : (d : Dir) → length (lines (hanan runs) d) ≤ n + n
   pub short : (d : Dir) (i : ℕ) → getD (sideAt xs ys d .len) i 0 ≤ 2000000
   pub listed : c < n

@@ -5,7 +5,7 @@ ghost use Rattle.network.specs.Lists.{sum};
 ghost use Rattle.network.specs.Plane.{gap, distance, _to_};
 ghost use Rattle.network.specs.Graph.{below, degree};
 ghost use Rattle.grid.specs.Tables.{table, padded};
-ghost use Rattle.grid.specs.Runs.{runsOf};
+ghost use Rattle.grid.specs.Runs.{runsHeld};
 ghost use Rattle.intersection.specs.Star.{joinedIn};
 ghost use Rattle.planner.specs.Coordinates.{RunsInRange};
 
@@ -33,7 +33,7 @@ pub fn total_distance(
     n: usize,
 ) -> u32
     requires { ⌜ RunsInRange (now x1) (now y1) (now x2) (now y2) n ⌝ }
-    ensures { λ r. ⌜ (r ≡ sum distance (runsOf (now (x1 .entry)) (now (y1 .entry)) (now (x2 .entry)) (now (y2 .entry)) n)) × (r ≤ 128000000) ⌝ }
+    ensures { λ r. ⌜ (r ≡ sum distance (runsHeld (now (x1 .entry)) (now (y1 .entry)) (now (x2 .entry)) (now (y2 .entry)) n)) × (r ≤ 128000000) ⌝ }
 {
     let mut total: u32 = 0;
     let mut i: usize = 0;

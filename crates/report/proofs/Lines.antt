@@ -10,6 +10,7 @@ use Rattle.network.specs.Hanan.{hanan}
 use Rattle.network.specs.Route.{Route, Routes}
 use Rattle.network.specs.Graph.{meets, degree}
 use Rattle.network.specs.Corners.{corners}
+use Rattle.network.proofs.Counting.{routes-length}
 use Rattle.grid.proofs.Places.{count-le}
 use Rattle.job.specs.declared.Run.{Run as Read}
 use Rattle.job.specs.Written.{WellFormed}
@@ -36,8 +37,8 @@ unfolding degree
 meets-most runs i = omega (arith, count-le (meets (hanan (runsOf runs)) (runsOf runs) i) (length (runsOf runs)), length-map runs runOf)
 
 module _ (number : ℕ) (runs : List Read) (w : WellFormed number runs) (routes : List Route) (m : Routes (hanan (runsOf runs)) (runsOf runs) routes) where
-  -- the routes are as many as the runs, and none has many corners
-  few : (length routes ≡ length (runsOf runs)) × All (λ c. length c ≤ 127) (map corners routes)
+  -- no route has many corners
+  few : All (λ c. length c ≤ 127) (map corners routes)
   few = let l = few-lines runs (w .most) in routes-few (hanan (runsOf runs)) (l .0) (l .1) (runsOf runs) routes m
 
   -- the numbers of the entries fit their fields
@@ -52,7 +53,7 @@ module _ (number : ℕ) (runs : List Read) (w : WellFormed number runs) (routes 
 
   -- and are few
   short : All (λ e. length (e .corners) ≤ 127) (planEntries runs routes)
-  short = entries-all (λ c. length c ≤ 127) (λ i. getD (numbersOf runs) i 0) (meetsOf (runsOf runs)) 0 (map corners routes) (few .1)
+  short = entries-all (λ c. length c ≤ 127) (λ i. getD (numbersOf runs) i 0) (meetsOf (runsOf runs)) 0 (map corners routes) few
 
   -- the listing of the plan's bytes, whatever stands behind them, is the plan's text
   pub plan-lists : (rest : List ℕ) → listingOf (planOf number runs routes ++ rest) ≡ planText (planHead number runs routes) (planEntries runs routes)
@@ -67,7 +68,7 @@ module _ (number : ℕ) (runs : List Read) (w : WellFormed number runs) (routes 
         arith,
         entries-length (λ i. getD (numbersOf runs) i 0) (meetsOf (runsOf runs)) 0 (map corners routes),
         length-map routes corners,
-        few .0,
+        routes-length (hanan (runsOf runs)) (runsOf runs) routes m,
         length-map runs runOf,
         w .most,
       ))

@@ -6,19 +6,18 @@ use Prim.Native.Nat.{ℕ, _-_, _≤_, _<_}
 use native.Mathlib.Omega.{arith}
 use lib.ListN.{length}
 use Rattle.network.specs.Lists.{All}
-use Rattle.network.specs.Plane.{Point, Run}
+use Rattle.network.specs.Plane.{Point}
 use Rattle.network.specs.Grid.{Grid}
 use Rattle.network.specs.Graph.{below}
-use Rattle.network.specs.Steps.{steps, extent, spot, at, Frame}
-use Rattle.network.specs.Route.{Manhattan}
+use Rattle.network.specs.Steps.{steps, extent, spot, at}
 use Rattle.network.specs.Corners.{samePoint, corners}
 use Rattle.network.proofs.Tests.{same-test}
 use Rattle.network.proofs.Rising.{one-index}
 use Rattle.network.proofs.Lanes.{at-fits, point-path}
-use Rattle.network.proofs.Corners.{point-true, corners-manhattan}
-use Rattle.network.proofs.Drawn.{from-steps}
+use Rattle.network.proofs.Corners.{point-true}
 use Rattle.route.specs.declared.Route.{Route}
-use Rattle.route.specs.Route.{below-at, length-below, stepsOf, columnsOf, rowsOf, drawnOf, OnGrid, numbered, cornersOf, placed, Tables}
+use Rattle.route.specs.Route.{stepsOf, columnsOf, rowsOf, drawnOf, OnGrid, numbered, cornersOf, placed, Tables}
+use Rattle.network.specs.Entries.{below-at, length-below}
 use Rattle.route.specs.Walker.{standing}
 use Rattle.network.specs.Pits.{pitsOf}
 use Rattle.route.proofs.Lists.{all-map, map-cong, flatten-map, flatten-all}
@@ -121,13 +120,3 @@ module _ (g : Grid) (few-columns : length (g .columns) ≤ 64) (few-rows : lengt
       (flatten-all (Inside g) (map cornersOf routes) (all-map (OnGrid g) (All (Inside g)) cornersOf corners-inside routes a)))
 
 -- ---- a Manhattan route
-
--- Where the route's lines are the frame of a run, its corners are a Manhattan route of the run on the grid.
-pub route-manhattan : (g : Grid) (run : Run) (r : Route) → Frame g run (columnsOf r) (rowsOf r) → Manhattan g run (corners (drawnOf g r))
-route-manhattan g run r f =
-    corners-manhattan g run (drawnOf g r)
-    (from-steps g run (columnsOf r) (rowsOf r) f (stepsOf r)
-    (record {
-      all-columns = sym (columns-extent r);
-      all-rows = sym (rows-extent r);
-    }))

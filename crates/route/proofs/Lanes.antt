@@ -11,7 +11,8 @@ use Rattle.network.specs.Steps.{hor, ver, steps, Lane, forth, back, extent, at,
 use Rattle.network.proofs.Rising.{one-index}
 use Rattle.network.proofs.Lanes.{at-fits}
 use Rattle.route.specs.declared.Route.{Route}
-use Rattle.route.specs.Route.{length-below, stepsOf, lane, columnsOf, rowsOf}
+use Rattle.route.specs.Route.{stepsOf, lane, columnsOf, rowsOf}
+use Rattle.network.specs.Entries.{length-below}
 use Rattle.route.specs.Walker.{following, Room}
 
 -- a lane that fits has fewer steps than there are lines
@@ -31,7 +32,8 @@ lane-apart l r (back a n) f i k h m e = omega (arith, one-index l r (a - i) (a -
 
 -- ---- n steps from line a, to higher indexes or to lower ones
 
-lane-extent : (b : Bool) (a n : ℕ) → extent (lane b a n) ≡ n
+-- the lane has n steps
+pub lane-extent : (b : Bool) (a n : ℕ) → extent (lane b a n) ≡ n
 lane-extent true a n = refl
 lane-extent false a n = refl
 

@@ -1,6 +1,5 @@
 -- The laws of routes on lines, by topic.
 pub mod Lists
-pub mod Steps
 pub mod Lanes
 pub mod Turns
 pub mod Walk

@@ -14,10 +14,11 @@ use Rattle.network.specs.Graph.{below}
 use Rattle.route.specs.declared.Route.{Route}
 use Rattle.route.specs.declared.Walker.{Walker}
 use Rattle.route.specs.declared.Stepped.{Stepped}
-use Rattle.route.specs.Route.{length-below, dirOf, stepsOf, columnsOf, rowsOf, OnGrid, numbered}
+use Rattle.route.specs.Route.{dirOf, stepsOf, columnsOf, rowsOf, OnGrid, numbered}
+use Rattle.network.specs.Entries.{length-below}
 use Rattle.route.specs.Walker.{headingOf, ahead, standing, nextOf, stepped, Free}
 use Rattle.route.specs.Marked.{crossing}
-use Rattle.route.proofs.Steps.{steps-take, steps-all, step-along, step-across}
+use Rattle.network.proofs.StepCounts.{steps-take, steps-all, step-along, step-across}
 use Rattle.route.proofs.Lanes.{fits-few, columns-extent, rows-extent, lane-start, lane-following, lane-in, lane-room}
 use Rattle.route.proofs.Turns.{passing, turns}
 

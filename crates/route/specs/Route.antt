@@ -1,18 +1,15 @@
 -- A route as the code holds it, steps from line to line, and the route of the network that it draws. Lines are named by their indexes;
 -- decimetres are looked up where a corner is written.
-use mathlib.Core.Path.{_≡_, refl, _∙_}
+use mathlib.Core.Path.{_≡_}
 use mathlib.Core.Bool.{Bool, true, false, cond}
-use mathlib.Core.List.{List, [], _∷_, map}
-use mathlib.Core.Logic.{_⊎_, inl, inr}
-use Prim.Native.Nat.{ℕ, zero, suc, _≤_, _<_}
-use native.Mathlib.Nat.{eq-or-lt-of-le}
-use native.Mathlib.Omega.{arith}
-use lib.ListN.{length, getD, take, length-append, List·getD-append}
-use lib.Seq.{getD-at}
+use mathlib.Core.List.{List, map}
+use Prim.Native.Nat.{ℕ, _≤_, _<_}
+use lib.ListN.{length, getD, take}
 use lib.Dec.{eqb}
 use Rattle.network.specs.Plane.{Point}
-use Rattle.network.specs.Grid.{Grid, Rising}
+use Rattle.network.specs.Grid.{Grid}
 use Rattle.network.specs.Graph.{below}
+use Rattle.network.specs.Entries.{below-rises}
 use Rattle.network.specs.Steps.{Dir, hor, ver, steps, Lane, forth, back, Fits, drawn}
 use Rattle.network.specs.Route.{Route as Points}
 use Rattle.network.specs.Corners.{corners}
@@ -49,24 +46,6 @@ pub record OnGrid (g : Grid) (r : Route) : Type 0 where
   pub rows-fit : Fits (g .rows) (rowsOf r)
 
 -- ---- the grid of indexes
-
--- the numbers below n are n, each stands at its own index, and so they rise
-pub length-below : (n : ℕ) → length (below n) ≡ n
-length-below zero = refl
-length-below (suc n) = length-append (below n) (n ∷ []) ∙ omega (arith, length-below n)
-
-pub below-at : (n i : ℕ) → i < n → getD (below n) i 0 ≡ i
-below-at zero i h = omega arith
-below-at (suc n) i h = go (eq-or-lt-of-le h) (below-at n i)
-  where
-    go : (suc i ≡ suc n) ⊎ (suc i < suc n) → (i < n → getD (below n) i 0 ≡ i) → getD (below (suc n)) i 0 ≡ i
-    go (inl e) ih = getD-at (below n) n [] 0 i (omega (arith, length-below n)) ∙ omega arith
-    go (inr k) ih = List·getD-append (below n) (n ∷ []) 0 i (omega (arith, length-below n)) ∙ ih (omega arith)
-
-pub below-rises : (n : ℕ) → Rising (below n)
-below-rises n i h =
-    let k : suc i < n = omega (arith, length-below n) in
-    omega (arith, below-at n i (omega arith), below-at n (suc i) k)
 
 -- 64 columns and 64 rows ("at most 64 of each", 01), each at its own index: its points are vertices named by the indexes of their lines
 unfoldable pub numbered : Grid

@@ -25,7 +25,8 @@ use Rattle.sharing.specs.Walk.{dirs, moved, lengthIf, owned, sharing, Su
 use Rattle.sharing.specs.Leaf.{leafSteps}
 use Rattle.sharing.specs.View.{View, shown, width}
 use Rattle.sharing.specs.Star.{starOf, Centred, routeAt, common}
-use Rattle.sharing.proofs.Steps.{coord, steps-le, steps-after, dirs-reverse, moved-reverse}
+use Rattle.sharing.proofs.Steps.{coord, steps-after, dirs-reverse, moved-reverse}
+use Rattle.network.proofs.StepCounts.{steps-le}
 use Rattle.sharing.proofs.Stretch.{mine-owner}
 use Rattle.sharing.proofs.Leaf.{Passes, At, here, past, leaf-leads, leaf-passes}
 use Rattle.sharing.proofs.View.{edge-length}

@@ -23,10 +23,10 @@ use Rattle.network.proofs.Sums.{sum-cong, sum-add, sumTo, sumTo-one}
 use Rattle.network.proofs.Edges.{OfGrid, edges-cong}
 use Rattle.network.proofs.Along.{on-route-inside}
 use Rattle.network.proofs.Meeting.{edge-overlap, meets-true, true-meets, meets-self}
-use Rattle.network.proofs.Counting.{count-times}
+use Rattle.network.proofs.Counting.{count-times, routes-length}
 use Rattle.network.proofs.Leaves.{below-member, member-below}
 use Rattle.sharing.specs.Star.{routeAt, common}
-use Rattle.sharing.proofs.Sums.{sum-below, one-term, routes-at, routes-length}
+use Rattle.sharing.proofs.Sums.{sum-below, one-term, routes-at}
 use Rattle.sharing.proofs.Most.{weight, common-is}
 
 -- ---- counting by numbers

@@ -3,7 +3,7 @@ use mathlib.Core.Path.{_≡_, refl}
 use Prim.Native.Nat.{ℕ, zero, suc}
 use Rattle.network.specs.Steps.{Dir, hor, ver}
 use Rattle.sharing.specs.Instance.{Instance, owner}
-use Rattle.sharing.specs.Table.{Flag, best, run, Table, all, only, arrival, from, bestOf, runOf, Exact}
+use Rattle.sharing.specs.Table.{Flag, best, run, Table, all, only, arrival, from, bestOf, runWord, Exact}
 
 -- the words of the two edges that end at a vertex
 abbrev Cell : Type 0
@@ -18,12 +18,12 @@ cellOf x y ver = y
 
 module _ (I : Instance) where
   -- the words of the edge along d from (s, t), by the cell u where it begins
-  abbrev runWord : Cell → Dir → ℕ → ℕ → ℕ
-  runWord u d s t = runOf (owner I d s t) (λ k. from I (λ d f s t. u d f) k d s t) (λ k. only (arrival I d s t) k (u d run)) (I .len d s)
+  abbrev runAfter : Cell → Dir → ℕ → ℕ → ℕ
+  runAfter u d s t = runWord (owner I d s t) (λ k. from I (λ d f s t. u d f) k d s t) (λ k. only (arrival I d s t) k (u d run)) (I .len d s)
 
   abbrev words : Cell → Dir → ℕ → ℕ → Flag → ℕ
-  words u d s t best = bestOf (owner I d s t) (all (λ d f s t. u d f) d s t) (runWord u d s t) (I .len d s)
-  words u d s t run = runWord u d s t
+  words u d s t best = bestOf (owner I d s t) (all (λ d f s t. u d f) d s t) (runAfter u d s t) (I .len d s)
+  words u d s t run = runAfter u d s t
 
   abbrev firstColumn : ℕ → Cell
   firstColumn zero = cellOf blank blank
@@ -53,7 +53,7 @@ module _ (I : Instance) where
       none ver f (suc t) = refl
 
       ran : (d : Dir) (s t : ℕ) → filled d run (suc s) t
-          ≡ runOf (owner I d s t) (λ k. from I filled k d s t) (λ k. only (arrival I d s t) k (filled d run s t)) (I .len d s)
+          ≡ runWord (owner I d s t) (λ k. from I filled k d s t) (λ k. only (arrival I d s t) k (filled d run s t)) (I .len d s)
       ran hor s zero = refl
       ran hor s (suc t) = refl
       ran ver s zero = refl

@@ -22,7 +22,8 @@ use Rattle.network.proofs.Drawn.{step-lies}
 use Rattle.sharing.specs.Box.{Box}
 use Rattle.sharing.specs.Leaf.{forward}
 use Rattle.sharing.specs.View.{lines, View, index, lower, coordinate, shown, edge}
-use Rattle.sharing.proofs.Steps.{coord, steps-append}
+use Rattle.sharing.proofs.Steps.{coord}
+use Rattle.network.proofs.StepCounts.{steps-append}
 use Rattle.sharing.proofs.Leaf.{lineAfter, lowAfter, Passes}
 use Rattle.sharing.proofs.View.{rises, Seen, index-fits}
 

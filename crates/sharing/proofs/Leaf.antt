@@ -20,7 +20,8 @@ use Rattle.sharing.specs.Instance.{Instance}
 use Rattle.sharing.specs.Trace.{Share, alone, with, Move}
 use Rattle.sharing.specs.Walk.{dirs, moved, Kept}
 use Rattle.sharing.specs.Leaf.{isWith, before, stretch, leg, forward, enter, leave, turnIf, via, leafSteps}
-use Rattle.sharing.proofs.Steps.{steps-same, steps-other, steps-append, steps-reverse, moved-reverse}
+use Rattle.sharing.proofs.Steps.{moved-reverse}
+use Rattle.network.proofs.StepCounts.{steps-same, steps-other, steps-append, steps-reverse}
 use Rattle.sharing.proofs.Owners.{Separate}
 use Rattle.sharing.proofs.Stretch.{forth-ends, back-ends, Mine, Other, Placed, Stretch, never, once, placed-from, placed-upto, placed-mine, placed-way, stretch-of}
 

@@ -13,7 +13,7 @@ use borrow.Author.Tests.{le-leb}
 use lib.ListN.{length}
 use Rattle.network.specs.Lists.{sum}
 use Rattle.network.specs.Plane.{Run}
-use Rattle.network.specs.Grid.{Grid, Edge, across, len, edges}
+use Rattle.network.specs.Grid.{Grid, Edge, len, edges}
 use Rattle.network.specs.Route.{Route, Manhattan, on}
 use Rattle.network.specs.Graph.{runAt, meets, below}
 use Rattle.network.specs.Excess.{shared}

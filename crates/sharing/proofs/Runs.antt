@@ -3,7 +3,7 @@
 use mathlib.Core.Path.{_≡_, refl, ap, ap₂, _∙_}
 use mathlib.Core.Bool.{Bool, true, false}
 use mathlib.Core.List.{List, [], _∷_}
-use Prim.Native.Nat.{ℕ, zero, suc, _≤_, _<_}
+use Prim.Native.Nat.{ℕ, _≤_, _<_}
 use native.Mathlib.Omega.{arith}
 use native.Mathlib.Decide.{decLt}
 use lib.Dec.{ltb}
@@ -12,7 +12,9 @@ use lib.ListN.{length, getD}
 use Rattle.network.specs.Plane.{Point, Run, _to_}
 use Rattle.network.specs.Grid.{Grid}
 use Rattle.network.specs.Route.{Route, Vertex}
+use Rattle.network.specs.Lists.{each}
 use Rattle.network.specs.Graph.{runAt, meets, below, isCentre}
+use Rattle.network.specs.Entries.{length-table, getD-table}
 use Rattle.network.specs.Boxes.{Placed}
 use Rattle.network.specs.Steps.{Dir, hor, ver, Lane, forth, Frame, drawn}
 use Rattle.network.proofs.Lanes.{point-path}
@@ -65,24 +67,6 @@ facing-rises g i j h k d = go (ltb (j d) (i d)) refl
 indexed-vertex : {g : Grid} {p : Point} (i : Dir → ℕ) → Indexed g p i → Vertex g p
 indexed-vertex i x = record { column = (i hor, x .fits hor, x .at-line hor); row = (i ver, x .fits ver, x .at-line ver) }
 
--- f 0, .., f (n - 1)
-tabulate : {A : Type 0} → ℕ → (ℕ → A) → List A
-tabulate zero f = []
-tabulate (suc n) f = f 0 ∷ tabulate n (λ k. f (suc k))
-
--- there are n of them
-tabulate-length : {A : Type 0} (n : ℕ) (f : ℕ → A) → length (tabulate n f) ≡ n
-unfolding tabulate
-tabulate-length zero f = refl
-tabulate-length (suc n) f = ap suc (tabulate-length n (λ k. f (suc k)))
-
--- and f k is the one with the index k
-tabulate-at : {A : Type 0} (n : ℕ) (f : ℕ → A) (z : A) (k : ℕ) → k < n → getD (tabulate n f) k z ≡ f k
-unfolding tabulate
-tabulate-at zero f z k h = absurd (omega arith)
-tabulate-at (suc n) f z zero h = refl
-tabulate-at (suc n) f z (suc k) h = tabulate-at n (λ i. f (suc i)) z k (omega arith)
-
 module _ (g : Grid) (runs : List Run) (firsts seconds : ℕ → Dir → ℕ)
     (first-at : (k : ℕ) → k < length runs → Indexed g (runAt runs k .first) (firsts k))
     (second-at : (k : ℕ) → k < length runs → Indexed g (runAt runs k .second) (seconds k)) where
@@ -118,7 +102,7 @@ module _ (g : Grid) (runs : List Run) (firsts seconds : ℕ → Dir → ℕ)
       let Y : ℕ → Lane = λ k. lanes k (decLt k (length runs)) .1 in
       let route : ℕ → Route = λ k. drawn g (X k) (Y k) (stepsOf I c (trace I (filled I)) k) in
       let frames : (k : ℕ) → k < length runs → Frame g (runAt runs k) (X k) (Y k) = λ k l. lanes k (decLt k (length runs)) .2 l in (
-        tabulate (length runs) route,
+        each (length runs) (λ k. route k ∷ []),
         star-best (view c) runs (box c) c (star-seen c h star) (filled I) (trace I (filled I)) (traced I (filled I) (filled-exact I)) X Y frames
-            (tabulate (length runs) route) star (filled-exact I) (tabulate-length (length runs) route) (λ k l. tabulate-at (length runs) route [] k l),
+            (each (length runs) (λ k. route k ∷ [])) star (filled-exact I) (length-table route (length runs)) (λ k l. getD-table route (length runs) k [] l),
       )

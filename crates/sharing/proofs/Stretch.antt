@@ -19,7 +19,7 @@ use Rattle.sharing.specs.Instance.{Instance, Owner, same, cross, inLeaf}
 use Rattle.sharing.specs.Trace.{Share, alone, with, Move}
 use Rattle.sharing.specs.Walk.{dirs, moved, owned, Suits, free, joined, ran, Before, goes-on, begun, Kept}
 use Rattle.sharing.specs.Leaf.{forward}
-use Rattle.sharing.proofs.Steps.{steps-same, steps-other, steps-le}
+use Rattle.network.proofs.StepCounts.{steps-same, steps-other, steps-le}
 use Rattle.sharing.proofs.Owners.{EdgeIn, Separate, lies-in, in-lies, owner-is, cross-in, same-in}
 
 -- ---- which way a run goes through its box

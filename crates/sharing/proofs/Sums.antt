@@ -1,5 +1,5 @@
 -- Sums over the runs below a number, and routes by their numbers.
-use mathlib.Core.Path.{_≡_, refl, sym, ap, _∙_}
+use mathlib.Core.Path.{_≡_, refl, sym, _∙_}
 use mathlib.Core.Bool.{Bool, true, false, cond}
 use mathlib.Core.List.{List, [], _∷_}
 use Prim.Native.Nat.{ℕ, zero, suc, _+_, _≤_, _<_}
@@ -47,20 +47,17 @@ term-le f (suc n) k h = go (decLt k n) (term-le f n k)
 
 -- ---- routes by their numbers
 
--- one Manhattan route for each run, by their numbers, and back
+-- one Manhattan route for each run, by their numbers
 pub routes-at : (g : Grid) (runs : List Run) (routes : List Route) → Routes g runs routes → (k : ℕ) → k < length runs
     → Manhattan g (runAt runs k) (routeAt routes k)
 routes-at g [] [] m k h = absurd (omega arith)
 routes-at g (run ∷ runs) (route ∷ routes) m zero h = m .0
 routes-at g (run ∷ runs) (route ∷ routes) m (suc k) h = routes-at g runs routes (m .1) k (omega arith)
 
+-- and back
 pub routes-of : (g : Grid) (runs : List Run) (routes : List Route) → length routes ≡ length runs
     → ((k : ℕ) → k < length runs → Manhattan g (runAt runs k) (routeAt routes k)) → Routes g runs routes
 routes-of g [] [] e m = tt
 routes-of g [] (p ∷ routes) e m = absurd (omega arith)
 routes-of g (run ∷ runs) [] e m = absurd (omega arith)
 routes-of g (run ∷ runs) (p ∷ routes) e m = (m 0 (omega arith), routes-of g runs routes (omega arith) (λ k h. m (suc k) (omega arith)))
-
-pub routes-length : (g : Grid) (runs : List Run) (routes : List Route) → Routes g runs routes → length routes ≡ length runs
-routes-length g [] [] m = refl
-routes-length g (run ∷ runs) (route ∷ routes) m = ap suc (routes-length g runs routes (m .1))

@@ -6,7 +6,7 @@
 -- one.
 use mathlib.Core.Path.{_≡_, refl, sym, ap, _∙_}
 use mathlib.Core.Bool.{Bool, true, false, _&&_}
-use mathlib.Core.List.{List, [], _∷_, _++_, reverse, reverse-reverse}
+use mathlib.Core.List.{List, [], _∷_, reverse, reverse-reverse}
 use Prim.Native.Nat.{ℕ, zero, suc, pred, _+_, _≤_, _<_}
 use native.Mathlib.Omega.{arith}
 use lib.Dec.{eqb, leb, ltb}
@@ -14,8 +14,8 @@ use borrow.Author.Tests.{eqb-true, eqb-false, ltb-true, lt-ltb, eq-eqb}
 use Rattle.network.specs.Steps.{Dir, hor, ver, other, steps}
 use Rattle.network.proofs.Tests.{and-split}
 use Rattle.sharing.specs.Instance.{Instance, Inside, Owner, none, same, cross, owner}
-use Rattle.sharing.specs.Table.{Flag, best, run, Table, all, unless, only, arrival, from, plus, bestOf, runOf, Exact}
-use Rattle.sharing.specs.Trace.{with, Move, State, settle, shareOf, settled, come, comeBest, comeFrom, begins, nextRun, nextBy, ownerOf, next, nexts, here, back, trace}
+use Rattle.sharing.specs.Table.{Flag, best, run, Table, all, unless, only, arrival, from, plus, bestOf, runWord, Exact}
+use Rattle.sharing.specs.Trace.{with, Move, State, settle, shareOf, settled, come, comeBest, comeFrom, begins, nextRun, nextBy, ownerOf, next, here, back, trace}
 use Rattle.sharing.specs.Walk.{dirs, moved, lengthIf, owned, sharing, Suits, free, joined, left, ran, Before, goes-on, begun, Linked, Kept, Traced}
 use Rattle.sharing.proofs.Steps.{coord, moved-reverse}
 use Rattle.sharing.proofs.Table.{unless-is, only-is, plus-is, bestOf-pos, left-max, right-max, all-turn, all-far, from-far}
@@ -188,7 +188,7 @@ module _ (I : Instance) (T : Table) where
         top : (o : Owner) → ownerOf I T q ≡ o → T d best (suc s) t ≡ bestOf o (all T d s t) (T d run (suc s) t) l
         top o e = rw e at (E .best-is d s t (r .inside))
 
-        runs : (o : Owner) → ownerOf I T q ≡ o → T d run (suc s) t ≡ runOf o (λ k. from I T k d s t) (λ k. only (arrival I d s t) k (T d run s t)) l
+        runs : (o : Owner) → ownerOf I T q ≡ o → T d run (suc s) t ≡ runWord o (λ k. from I T k d s t) (λ k. only (arrival I d s t) k (T d run s t)) l
         runs o e = rw e at (E .run-is d s t (r .inside))
 
         stretch : (k : ℕ) → ownerOf I T q ≡ cross k → q .flag ≡ run → (b : Bool) → begins I T k q ≡ b → Source q (nextRun I T b k q) l
@@ -407,13 +407,3 @@ module _ (I : Instance) (T : Table) where
     -- one move back, one move fewer is left
     pub next-ready : (n : ℕ) (q : State) → Ready (suc n) q → Ready n (next I T q)
     next-ready n q r = advance n q (next I T q) (takes q) r (source (suc n) q r) .reach .ready
-
-  -- the moves found so far, and one more
-  pub back-more : (n : ℕ) (q : State) → back I T (suc n) q ≡ back I T n q ++ (here I T (nexts I T n q) ∷ [])
-  unfolding back nexts
-  back-more zero q = refl
-  back-more (suc n) q = ap (λ p. here I T q ∷ p) (back-more n (next I T q) ∙ rw (after n q))
-    where
-      after : (n : ℕ) (q : State) → nexts I T n (next I T q) ≡ next I T (nexts I T n q)
-      after zero q = refl
-      after (suc n) q = ap (next I T) (after n q)

@@ -9,11 +9,10 @@ use mathlib.Core.List.{List}
 use Prim.Native.Nat.{ℕ, suc, _-_, _≤_, _<_}
 use native.Mathlib.Omega.{arith}
 use lib.ListN.{length, getD}
-use Rattle.network.specs.Plane.{gap}
 use Rattle.network.specs.Grid.{Rising, Grid, len, inside}
 use Rattle.network.specs.Steps.{Dir, hor, ver, other}
 use Rattle.network.proofs.Tests.{Spans, inside-true, true-inside}
-use Rattle.network.proofs.Numbers.{order, Between, rise, fall, gap-rise, gap-fall}
+use Rattle.network.proofs.Numbers.{order, Between, rise, fall}
 use Rattle.network.proofs.Rising.{rising-le, index-le}
 use Rattle.network.proofs.Edges.{OfGrid, across-of, upward-of}
 use Rattle.sharing.specs.Box.{Box, lo, hi}
@@ -142,19 +141,6 @@ module _ (v : View) where
   unfolding len
   edge-length hor s t = refl
   edge-length ver s t = refl
-
-  -- an edge is as long as the coordinates of its lines are apart
-  pub width-gap : (d : Dir) (s : ℕ) → suc s < length (lines (v .grid) d) → width v d s ≡ gap (coordinate v d s) (coordinate v d (suc s))
-  width-gap d s h = go (v .flip d)
-    where
-      l : List ℕ
-      l = lines (v .grid) d
-
-      go : (f : Bool) → getD l (suc (lower f (length l) s)) 0 - getD l (lower f (length l) s) 0 ≡ gap (lineAt l f s) (lineAt l f (suc s))
-      go false = omega (arith, gap-rise (getD l s 0) (getD l (suc s) 0) (line-order l (rises (v .grid) d) false s (suc s) (omega arith) h))
-      go true =
-          let e : suc (length l - suc (suc s)) ≡ length l - suc s = omega arith in
-          omega (arith, ap (λ i. getD l i 0) e, gap-fall (lineAt l true s) (lineAt l true (suc s)) (line-order l (rises (v .grid) d) true s (suc s) (omega arith) h))
 
   -- an edge in a box, by numbers and in the plane
   pub lies-inside : (b : Box) → Seen b → (d : Dir) (s t : ℕ) → Edges d s t → Lies b d s t → inside (edge v d s t) (shown v b) ≡ true

@@ -66,17 +66,17 @@ bestOf (same k) w r l = plus w l
 bestOf (cross k) w r l = max w r
 
 -- and its run word, where a stretch with k begins with the word new k, or goes on from the word on k
-abbrev pub runOf : Owner → (ℕ → ℕ) → (ℕ → ℕ) → ℕ → ℕ
-runOf none new on l = 0
-runOf (same k) new on l = 0
-runOf (cross k) new on l = max (plus (new k) l) (plus (on k) l)
+abbrev pub runWord : Owner → (ℕ → ℕ) → (ℕ → ℕ) → ℕ → ℕ
+runWord none new on l = 0
+runWord (same k) new on l = 0
+runWord (cross k) new on l = max (plus (new k) l) (plus (on k) l)
 
 -- the table holds these words at every vertex of the centre's box
 pub record Exact (I : Instance) (T : Table) : Type 0 where
   pub no-edge : (d : Dir) (f : Flag) (t : ℕ) → t ≤ I .size (other d) → T d f 0 t ≡ 0
   pub best-is : (d : Dir) (s t : ℕ) → Inside I d s t → T d best (suc s) t ≡ bestOf (owner I d s t) (all T d s t) (T d run (suc s) t) (I .len d s)
   pub run-is : (d : Dir) (s t : ℕ) → Inside I d s t
-      → T d run (suc s) t ≡ runOf (owner I d s t) (λ k. from I T k d s t) (λ k. only (arrival I d s t) k (T d run s t)) (I .len d s)
+      → T d run (suc s) t ≡ runWord (owner I d s t) (λ k. from I T k d s t) (λ k. only (arrival I d s t) k (T d run s t)) (I .len d s)
 
 -- what the table says that can be shared
 unfoldable pub figure : Instance → Table → ℕ

@@ -88,14 +88,10 @@ module _ (I : Instance) (T : Table) where
   abbrev pub here : State → Move
   here q = record { dir = q .dir; share = shareOf (ownerOf q) (q .flag) }
 
-  -- the n moves of which the edge of q is the last, the last move first, and the edge n moves before it
+  -- the n moves of which the edge of q is the last, the last move first
   unfoldable pub back : ℕ → State → List Move
   back zero q = []
   back (suc n) q = here q ∷ back n (next q)
-
-  unfoldable pub nexts : ℕ → State → State
-  nexts zero q = q
-  nexts (suc n) q = next (nexts n q)
 
   -- the centre's moves, the first one first
   unfoldable pub trace : List Move

@@ -111,11 +111,6 @@ leaves-lt s n leaves i = pack-lt (leafOn s leaves i) n
 
 -- ---- sets by a test
 
--- no runs make the empty set
-pub pack-none : (f : ℕ → Bool) → pack f 0 ≡ 0
-unfolding pack
-pack-none f = refl
-
 -- one run more: its bit where the test holds
 pub pack-more : (f : ℕ → Bool) (n : ℕ) → pack f (n + 1) ≡ cond (f n) (2 ^ n) 0 + pack f n
 unfolding pack

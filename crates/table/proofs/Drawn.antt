@@ -10,7 +10,7 @@ use lib.Dec.{eqb, leb, ltb}
 use borrow.Author.Tests.{eq-eqb, ne-eqb, lt-ltb}
 use Rattle.network.specs.Steps.{Dir, hor, ver, other}
 use Rattle.sharing.specs.Instance.{Instance, Inside, Owner, none, same, cross, owner}
-use Rattle.sharing.specs.Table.{Flag, best, run, Table, atStart, all, unless, only, arrival, from, bestOf, runOf, Exact, figure}
+use Rattle.sharing.specs.Table.{Flag, best, run, Table, atStart, all, unless, only, arrival, from, bestOf, runWord, Exact, figure}
 use Rattle.sharing.specs.Trace.{Move, State, settled, come, comeBest, comeFrom, begins, nextRun, nextBy, ownerOf, next, here, back, trace}
 use Rattle.sharing.proofs.Steps.{coord}
 use Rattle.sharing.proofs.Table.{from-far}
@@ -50,7 +50,7 @@ module _ (g : Group) (I : Instance) (D : Drawn g I) where
   entered-is : (words : List ℕ) (d : Dir) (s t : ℕ) → Inside I d s t
       → entered g words d s t
       ≡ pair (bestOf (owner I d s t) (all (tableOf (g .w) words) d s t) (entered g words d s t .run) (I .len d s))
-      (runOf (owner I d s t) (λ k. from I (tableOf (g .w) words) k d s t) (λ k. only (arrival I d s t) k (tableOf (g .w) words d run s t)) (I .len d s))
+      (runWord (owner I d s t) (λ k. from I (tableOf (g .w) words) k d s t) (λ k. only (arrival I d s t) k (tableOf (g .w) words d run s t)) (I .len d s))
   unfolding entered all from
   entered-is words d s t i =
       rw (start-spot (g .w) d s t (omega (arith, D .wide)), D .lengths d s (i .along))

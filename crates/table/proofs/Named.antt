@@ -12,7 +12,7 @@ use lib.ListN.{getD}
 use lib.Pow.{pow-pos, pow-lt}
 use borrow.Author.Tests.{eqb-true, eq-eqb, ne-eqb, lt-ltb}
 use Rattle.sharing.specs.Instance.{Owner, none, same, cross}
-use Rattle.sharing.specs.Table.{Flag, best, run, zeroIf, unless, only, plus, bestOf, runOf}
+use Rattle.sharing.specs.Table.{Flag, best, run, zeroIf, unless, only, plus, bestOf, runWord}
 use Rattle.sharing.specs.Trace.{with, settle, shareOf}
 use Rattle.intersection.specs.Sets.{has, members}
 use Rattle.intersection.proofs.Digits.{has-and, has-power, none-has, same-set}
@@ -115,7 +115,7 @@ module _ (c : ℕ) (along across : Edge) (x y : Owner) (along-is : Names c (alon
   -- which words it reads is settled by the names of the edges before it
   pub named-rule : (o : ℕ) (w : Owner) → Names c o w → ruleOf along across start o len c
       ≡ pair (bestOf w (allOf along across start) (ruleOf along across start o len c .run) len)
-      (runOf w (λ k. max (max (unless x k (along .best)) (unless y k (across .best))) start) (λ k. only x k (along .run)) len)
+      (runWord w (λ k. max (max (unless x k (along .best)) (unless y k (across .best))) start) (λ k. only x k (along .run)) len)
   named-rule o w nobody = let r = rule-free along across start 0 len c refl in r
   named-rule o w (alike {k} h e) = rule-same along across start (2 ^ k) len c (power-some k) (and-out k c e)
   named-rule o w (unlike {k} h e) =

@@ -15,11 +15,11 @@ use lib.Pow.{pow-pos, pow-lt}
 use borrow.Author.Tests.{eq-eqb, ne-eqb}
 use Rattle.network.specs.Plane.{Run, gap}
 use Rattle.network.specs.Grid.{Grid}
-use Rattle.network.specs.Graph.{runAt, meets}
+use Rattle.network.specs.Graph.{meets}
 use Rattle.network.specs.Steps.{Dir, hor, ver, other}
 use Rattle.network.proofs.Tests.{and-split, outcome}
 use Rattle.sharing.specs.Box.{Box, lo, hi, passes, liesIn, falls}
-use Rattle.sharing.specs.Instance.{Instance, cross, ownerIf, owner}
+use Rattle.sharing.specs.Instance.{Instance, ownerIf, owner}
 use Rattle.sharing.specs.Table.{arrival}
 use Rattle.sharing.specs.View.{lines, View, numbered}
 use Rattle.sharing.specs.Star.{starOf, Centred}
@@ -31,7 +31,7 @@ use Rattle.table.specs.declared.side.Side.{Side}
 use Rattle.table.specs.declared.frame.Group.{Group}
 use Rattle.table.specs.Side.{Placed, covers, leafOn, leavesOn}
 use Rattle.table.specs.Frame.{lineOf, lowerOf, frameLine, ahead, goesDown, crosses, Grouped}
-use Rattle.table.specs.OnLines.{sideAt, firstAt, secondAt, OnLines, viewBy, boxBy}
+use Rattle.table.specs.OnSides.{sideAt, firstAt, secondAt, OnSides, viewBy, boxBy}
 use Rattle.table.specs.Rule.{many, lineAt, ownSet, Fit}
 use Rattle.table.proofs.Boxes.{leaves-lt}
 use Rattle.table.proofs.Lines.{gap-lt, lower-lt}
@@ -67,7 +67,7 @@ all-true true a b d e =
 all-true false a b d e = absurd (true≢false (sym e))
 
 module _ (grid : Grid) (runs : List Run) (xs ys : Side) (c leaves : ℕ) (g : Group)
-    (S : OnLines grid runs xs ys c leaves) (G : Grouped xs ys (length runs) c leaves g)
+    (S : OnSides grid runs xs ys c leaves) (G : Grouped xs ys (length runs) c leaves g)
     (C : Centred (viewBy grid xs ys c) runs (boxBy grid xs ys c) c) where
   -- the centre's view
   abbrev v : View

@@ -13,7 +13,6 @@ use Rattle.network.specs.Hanan.{hanan}
 use Rattle.network.specs.Distinct.{distinct}
 use Rattle.network.specs.Plane.{Run}
 use Rattle.network.specs.Graph.{runAt, meets, isCentre, below}
-use Rattle.network.specs.Boxes.{Placed}
 use Rattle.network.specs.Steps.{Dir, hor, ver}
 use Rattle.sharing.specs.Table.{Exact, figure}
 use Rattle.sharing.specs.Walk.{Traced}
@@ -23,18 +22,18 @@ use Rattle.sharing.proofs.Runs.{indexed-shows, facing-rises}
 use Rattle.sharing.proofs.Theorem.{star-centred}
 use Rattle.grid.specs.declared.Axis.{Axis}
 use Rattle.grid.specs.Tables.{table, padded}
-use Rattle.grid.specs.Runs.{runsOf}
+use Rattle.grid.specs.Runs.{runsHeld}
 use Rattle.grid.specs.Lines.{values, axisOf, lengthAt}
-use Rattle.grid.proofs.Tables.{length-table, getD-table, getD-padded, getD-behind}
+use Rattle.grid.proofs.Tables.{getD-padded, getD-behind}
+use Rattle.network.specs.Entries.{length-table, getD-table}
 use Rattle.grid.proofs.Places.{position-line, axis-lengths}
-use Rattle.grid.proofs.Values.{few-lines}
 use Rattle.grid.proofs.Hanan.{length-runs, run-at, columns-are, rows-are, axis-columns, axis-rows, run-placed, length-within}
 use Rattle.intersection.specs.Sets.{has}
 use Rattle.table.specs.declared.side.Side.{Side}
 use Rattle.table.specs.declared.frame.Group.{Group}
 use Rattle.table.specs.Side.{Sided, firstOf, secondOf}
 use Rattle.table.specs.Side
-use Rattle.table.specs.OnLines.{sideAt, firstAt, secondAt, OnLines, viewBy, boxBy}
+use Rattle.table.specs.OnSides.{sideAt, firstAt, secondAt, OnSides, viewBy, boxBy}
 use Rattle.table.specs.Frame.{Grouped}
 use Rattle.table.specs.Rule.{tableOf, Ruled, figureOf}
 use Rattle.table.specs.Walk.{walked}
@@ -79,11 +78,11 @@ module _ (x1 y1 x2 y2 : List ℕ) (n : ℕ) (few : n ≤ 32) (a b : Axis) (ea : 
     (xs ys : Side) (sx : Sided a x1 x2 n xs) (sy : Sided b y1 y2 n ys) where
   -- the job's runs
   abbrev runs : List Run
-  runs = runsOf x1 y1 x2 y2 n
+  runs = runsHeld x1 y1 x2 y2 n
 
   -- their grid
   abbrev grid : Grid
-  grid = hanan (runsOf x1 y1 x2 y2 n)
+  grid = hanan (runsHeld x1 y1 x2 y2 n)
 
   -- there are n runs
   size : length runs ≡ n
@@ -109,22 +108,6 @@ module _ (x1 y1 x2 y2 : List ℕ) (n : ℕ) (few : n ≤ 32) (a b : Axis) (ea : 
   second-y k h =
       second-line b (grid .rows) y1 y2 n ys (axis-rows x1 y1 x2 y2 n b eb) (grid .rows-rise) sy k h (run-placed x1 y1 x2 y2 n k h .second-vertex .row)
 
-  -- there are at most 64 lines, so the positions are below 64
-  few-columns : length (grid .columns) ≤ 64
-  few-columns = rw (columns-are x1 y1 x2 y2 n) (omega (arith, few-lines x1 x2 n))
-
-  -- on either axis
-  few-rows : length (grid .rows) ≤ 64
-  few-rows = rw (rows-are x1 y1 x2 y2 n) (omega (arith, few-lines y1 y2 n))
-
-  -- so the columns' positions suit the tables
-  pub placed-x : Side.Placed xs n
-  placed-x k h = (omega (arith, first-x k h .0, few-columns), omega (arith, second-x k h .0, few-columns))
-
-  -- and the rows'
-  pub placed-y : Side.Placed ys n
-  placed-y k h = (omega (arith, first-y k h .0, few-rows), omega (arith, second-y k h .0, few-rows))
-
   -- no edge is longer than the coordinates allow
   pub short : (m : ℕ) → ((i : ℕ) → i < n → (getD x1 i 0 ≤ m) × (getD x2 i 0 ≤ m)) → ((i : ℕ) → i < n → (getD y1 i 0 ≤ m) × (getD y2 i 0 ≤ m))
       → (d : Dir) (i : ℕ) → getD (sideAt xs ys d .len) i 0 ≤ m
@@ -135,8 +118,8 @@ module _ (x1 y1 x2 y2 : List ℕ) (n : ℕ) (few : n ≤ 32) (a b : Axis) (ea : 
       length-le b (grid .rows) y1 y2 n ys (axis-rows x1 y1 x2 y2 n b eb) (grid .rows-rise) sy m (rw (rows-are x1 y1 x2 y2 n) (length-within y1 y2 n m hy))
 
   -- the sides hold the job
-  pub on-lines : (c leaves : ℕ) → ((k : ℕ) → k < n → has leaves k ≡ meets grid runs c k) → OnLines grid runs xs ys c leaves
-  on-lines c leaves h =
+  pub on-sides : (c leaves : ℕ) → ((k : ℕ) → k < n → has leaves k ≡ meets grid runs c k) → OnSides grid runs xs ys c leaves
+  on-sides c leaves h =
       record {
         few = rw size few;
         first-at = λ k l. let m : k < n = rw size at l in rw (run-at x1 y1 x2 y2 n k m)
@@ -153,14 +136,14 @@ module _ (x1 y1 x2 y2 : List ℕ) (n : ℕ) (few : n ≤ 32) (a b : Axis) (ea : 
 -- ---- the star
 
 -- the centre of a job that is one star is centred in the view that the sides give
-pub lines-centred : (grid : Grid) (runs : List Run) (xs ys : Side) (c leaves : ℕ) → OnLines grid runs xs ys c leaves → c < length runs
+pub sides-centred : (grid : Grid) (runs : List Run) (xs ys : Side) (c leaves : ℕ) → OnSides grid runs xs ys c leaves → c < length runs
     → isCentre (meets grid runs) (below (length runs)) c ≡ true → Centred (viewBy grid xs ys c) runs (boxBy grid xs ys c) c
-lines-centred grid runs xs ys c leaves S h star =
+sides-centred grid runs xs ys c leaves S h star =
     star-centred (viewBy grid xs ys c) runs (boxBy grid xs ys c) c star h
     (λ k l. indexed-shows (viewBy grid xs ys c) (runAt runs k) (firstAt xs ys k) (secondAt xs ys k) (S .first-at k l) (S .second-at k l))
     (facing-rises grid (firstAt xs ys c) (secondAt xs ys c) (λ d. S .first-at c h .fits d) (λ d. S .second-at c h .fits d))
 
-module _ (grid : Grid) (runs : List Run) (xs ys : Side) (c leaves : ℕ) (S : OnLines grid runs xs ys c leaves)
+module _ (grid : Grid) (runs : List Run) (xs ys : Side) (c leaves : ℕ) (S : OnSides grid runs xs ys c leaves)
     (C : Centred (viewBy grid xs ys c) runs (boxBy grid xs ys c) c)
     (g : Group) (G : Grouped xs ys (length runs) c leaves g) (words : List ℕ) (R : Ruled g words) where
   -- THEOREM: the table that `fill` leaves is exact for the star

@@ -1,6 +1,6 @@
 -- What the contracts of `table` cite.
 pub mod Side
-pub mod OnLines
+pub mod OnSides
 pub mod Frame
 pub mod Rule
 pub mod Walk

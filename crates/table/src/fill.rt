@@ -2,7 +2,7 @@
 use crate::frame::Group;
 use crate::frame::Line;
 ghost use mathlib.Core.Path.{_≡_};
-ghost use Prim.Native.Nat.{pred, _+_, _-_, _*_, _^_, _≤_, _<_, max};
+ghost use Prim.Native.Nat.{pred, _+_, _-_, _*_, _^_, _≤_, _<_};
 ghost use lib.ListN.{length};
 ghost use Rattle.sharing.specs.Table.{plus};
 ghost use Rattle.table.specs.Rule.{pairOf, edgeBy, unlessOwn, ifOwn, ruleOf, startOf, Ruled, figureOf, Fit, Beyond, four, enterOf, intoOf, Light, Near, cellIn};
@@ -25,12 +25,6 @@ pub struct Pair {
 pub struct Cell {
     pub hor: Pair,
     pub ver: Pair,
-}
-
-pub fn larger(a: u32, b: u32) -> u32
-    ensures { λ r. ⌜ r ≡ max a b ⌝ }
-{
-    if a < b { b } else { a }
 }
 
 // len more, but 0 stays 0.
@@ -84,7 +78,7 @@ fn rule(along: Edge, across: Edge, start: u32, o: u32, len: u32, cross: u32) -> 
     requires { ⌜ (along .best < 2 ^ 31) × (along .run < 2 ^ 31) × (across .best < 2 ^ 31) × (start < 2 ^ 31) × (len < 2 ^ 31) ⌝ }
     ensures { λ r. ⌜ r ≡ ruleOf along across start o len cross ⌝ }
 {
-    let all = larger(along.best, larger(across.best, start));
+    let all = grid::most(along.best, grid::most(across.best, start));
     if o == 0 {
         return Pair { best: all, run: 0 };
     }
@@ -94,10 +88,13 @@ fn rule(along: Edge, across: Edge, start: u32, o: u32, len: u32, cross: u32) -> 
             run: 0,
         };
     }
-    let new = larger(unless_own(along, o), larger(unless_own(across, o), start));
-    let run = plus_len(larger(new, if_own(along, o)), len);
+    let new = grid::most(
+        unless_own(along, o),
+        grid::most(unless_own(across, o), start),
+    );
+    let run = plus_len(grid::most(new, if_own(along, o)), len);
     Pair {
-        best: larger(all, run),
+        best: grid::most(all, run),
         run,
     }
 }
@@ -291,6 +288,6 @@ pub fn figure_of(work: &[u32], g: Group) -> u32
 {
     let p = g.h * g.w - 1;
     let i = p * 4;
-    let n = larger(larger(work[i], work[i + 2]), start_at(p));
+    let n = grid::most(grid::most(work[i], work[i + 2]), start_at(p));
     if n == 0 { 0 } else { n - 1 }
 }

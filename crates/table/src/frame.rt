@@ -25,8 +25,8 @@ pub struct Group {
     pub h: usize,
 }
 
-// How many steps it is from position p to position q.
-fn steps(p: usize, q: usize) -> usize
+// How far apart two positions are.
+pub fn gap(p: usize, q: usize) -> usize
     ensures { λ r. ⌜ r ≡ gap p q ⌝ }
 {
     if q < p { p - q } else { q - p }
@@ -80,7 +80,7 @@ fn frame_lines(on: &[u32; 64], len: &[u32; 64], p: usize, q: usize) -> [Line; 64
         into: 0,
         len: 0,
     }; 64];
-    let last = steps(p, q);
+    let last = gap(p, q);
     let mut i: usize = 0;
     while i <= last {
         t[i] = line_at(on, len, p, q, i);
@@ -106,7 +106,7 @@ fn line_count(s: Side, n: usize, centre: usize) -> usize
     requires { ⌜ (n ≤ 32) × Placed s n × (centre < n) ⌝ }
     ensures { λ r. ⌜ r ≡ suc (gap (firstOf s centre) (secondOf s centre)) ⌝ }
 {
-    steps(
+    gap(
         crate::side::wide(s.first[centre]),
         crate::side::wide(s.second[centre]),
     )

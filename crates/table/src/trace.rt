@@ -54,7 +54,7 @@ fn begins(e: Edge, along: Edge, across: Edge) -> bool
     ensures { λ r. ⌜ r ≡ beginsWith e along across ⌝ }
 {
     let o = e.own;
-    let f = crate::fill::larger(
+    let f = grid::most(
         crate::fill::unless_own(along, o),
         crate::fill::unless_own(across, o),
     );

@@ -1,7 +1,6 @@
 -- `plan_vectors::print_plan` is safe: the plan ends in the buffer.
 use mathlib.Core.Path.{sym}
 use lib.Seq.{length-take-le}
-use Prim.Native.Nat.{_-_}
 use borrow.Author.Needs.{needs}
 use Rattle.plan_vectors.proofs.print_plan.Statement.{statement}
 use Rattle.plan_vectors.proofs.print_plan.Tie as tie

@@ -3,7 +3,7 @@ use native.Mathlib.Nat.{le-trans}
 use borrow.Author.Tests.{not-false}
 use lib.ListN.{length, take, length-take}
 use Rattle.plan.proofs.Runs.{written-most}
-use Prim.Native.Nat.{_-_, _≤_}
+use Prim.Native.Nat.{_≤_}
 use native.Mathlib.Omega.{arith}
 use borrow.Author.Needs.{needs}
 use Rattle.plan_vectors.proofs.show.Statement.{statement}

@@ -4,13 +4,13 @@ use Prim.Native.Nat.{ℕ, _*_, _≤_, _-_}
 use native.Mathlib.Omega.{arith}
 use Rattle.network.specs.Lists.{sum}
 use Rattle.network.specs.Plane.{distance}
-use Rattle.grid.specs.Runs.{runsOf}
+use Rattle.grid.specs.Runs.{runsHeld}
 use Rattle.planner.proofs.Distances.{distances-none, distances-more}
 use Rattle.planner.proofs.figures.total_distance.Statement.{statement}
 use Rattle.planner.proofs.figures.total_distance.Tie as tie
 
 abbrev Inv-loop : tie.InvT-loop
-Inv-loop x1 y1 x2 y2 n total₀ i₀ total i = (i ≤ n) × (total ≡ sum distance (runsOf x1 y1 x2 y2 i)) × (total ≤ 4000000 * i)
+Inv-loop x1 y1 x2 y2 n total₀ i₀ total i = (i ≤ n) × (total ≡ sum distance (runsHeld x1 y1 x2 y2 i)) × (total ≤ 4000000 * i)
 
 abbrev μ-loop : tie.MeasureT-loop
 μ-loop x1 y1 x2 y2 n total₀ i₀ total i = n - i
@@ -68,7 +68,7 @@ returns c =
     let a = c .before .before .args in
     let l = c .before .loop in
     let e : l .i ≡ a .n = omega arith in
-    (l .inv .1 ∙ ap (λ (k : ℕ). sum distance (runsOf (a .x1 .now) (a .y1 .now) (a .x2 .now) (a .y2 .now) k)) e, omega arith)
+    (l .inv .1 ∙ ap (λ (k : ℕ). sum distance (runsHeld (a .x1 .now) (a .y1 .now) (a .x2 .now) (a .y2 .now) k)) e, omega arith)
 
 pub total-distance-spec : {M : Type 1} → statement M
 total-distance-spec =

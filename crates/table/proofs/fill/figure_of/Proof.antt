@@ -18,33 +18,33 @@ sub-p c =
 mul-i : tie.Need-mul-i
 mul-i c = search needs
 
-mul-larger : tie.Need-mul-larger
-mul-larger c = search needs
+mul-most : tie.Need-mul-most
+mul-most c = search needs
 
-shared-slice-read-larger : tie.Need-shared-slice-read-larger
-shared-slice-read-larger c =
+shared-slice-read-most : tie.Need-shared-slice-read-most
+shared-slice-read-most c =
     let s = c .before .before .before in
     omega (arith, last-fits (s .args .g) (s .args .work .now) (s .pre))
 
-add-larger : tie.Need-add-larger
-add-larger c = search needs
+add-most : tie.Need-add-most
+add-most c = search needs
 
-mul-larger-2 : tie.Need-mul-larger-2
-mul-larger-2 c = search needs
+mul-most-2 : tie.Need-mul-most-2
+mul-most-2 c = search needs
 
-shared-slice-read-larger-2 : tie.Need-shared-slice-read-larger-2
-shared-slice-read-larger-2 c =
+shared-slice-read-most-2 : tie.Need-shared-slice-read-most-2
+shared-slice-read-most-2 c =
     let s = c .before .before .before .before in
     omega (arith, last-fits (s .args .g) (s .args .work .now) (s .pre))
 
-larger-requires : tie.Need-larger-requires
-larger-requires c κs = search needs
+most-requires : tie.Need-most-requires
+most-requires c κs = search needs
 
 start-at-requires : tie.Need-start-at-requires
 start-at-requires c κs = search needs
 
-larger-requires-2 : tie.Need-larger-requires-2
-larger-requires-2 c κs = search needs
+most-requires-2 : tie.Need-most-requires-2
+most-requires-2 c κs = search needs
 
 sub-result : tie.Need-sub-result
 sub-result c = search needs
@@ -53,14 +53,14 @@ returns : tie.Need-returns
 returns c =
     let n = c .before in
     let s = n .before .before .before .before .before .before .before in
-    let e = figure-is (s .args .g) (s .args .work .now) (n .larger2 .result) (s .pre) (rw (n .larger2 .ensures, n .before .start-at .ensures .0, n .before .before .larger .ensures)) in
+    let e = figure-is (s .args .g) (s .args .work .now) (n .most2 .result) (s .pre) (rw (n .most2 .ensures, n .before .start-at .ensures .0, n .before .before .most .ensures)) in
     omega arith
 
 returns-2 : tie.Need-returns-2
 returns-2 c =
     let n = c .before in
     let s = n .before .before .before .before .before .before .before in
-    let e = figure-is (s .args .g) (s .args .work .now) (n .larger2 .result) (s .pre) (rw (n .larger2 .ensures, n .before .start-at .ensures .0, n .before .before .larger .ensures)) in
+    let e = figure-is (s .args .g) (s .args .work .now) (n .most2 .result) (s .pre) (rw (n .most2 .ensures, n .before .start-at .ensures .0, n .before .before .most .ensures)) in
     omega arith
 
 pub figure-of-spec : {M : Type 1} → statement M
@@ -70,14 +70,14 @@ figure-of-spec =
     mul-p
     sub-p
     mul-i
-    mul-larger
-    shared-slice-read-larger
-    add-larger
-    mul-larger-2
-    shared-slice-read-larger-2
-    larger-requires
+    mul-most
+    shared-slice-read-most
+    add-most
+    mul-most-2
+    shared-slice-read-most-2
+    most-requires
     start-at-requires
-    larger-requires-2
+    most-requires-2
     sub-result
     returns
     returns-2)

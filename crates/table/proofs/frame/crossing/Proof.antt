@@ -6,7 +6,8 @@ use Rattle.intersection.specs.Sets.{pack}
 use Rattle.intersection.proofs.Digits.{pack-lt}
 use Rattle.table.specs.Side.{firstOf, secondOf}
 use Rattle.table.specs.Frame.{crosses}
-use Rattle.table.proofs.Boxes.{pack-none, pack-more}
+use Rattle.intersection.proofs.Digits.{pack-none}
+use Rattle.table.proofs.Boxes.{pack-more}
 use borrow.Author.Needs.{needs}
 use native.Mathlib.Omega.{arith}
 use Rattle.table.proofs.frame.crossing.Statement.{statement}

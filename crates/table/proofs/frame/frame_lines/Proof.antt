@@ -16,13 +16,13 @@ Inv-loop on len p q t₀ last i₀ t i = (i ≤ last + 1) × (last ≡ gap p q) 
 abbrev μ-loop : tie.MeasureT-loop
 μ-loop on len p q t₀ last i₀ t i = last + 1 - i
 
-steps-requires : tie.Need-steps-requires Inv-loop μ-loop
-steps-requires c κs = search needs
+gap-requires : tie.Need-gap-requires Inv-loop μ-loop
+gap-requires c κs = search needs
 
 loop-holds : tie.Need-loop-holds Inv-loop μ-loop
 loop-holds c =
     let s = c .before in
-    (search needs, c .steps .ensures, omega (arith, gap-lt 64 (s .args .p) (s .args .q) (s .pre .0) (s .pre .1)), search needs, λ j h. absurd (omega arith))
+    (search needs, c .gap .ensures, omega (arith, gap-lt 64 (s .args .p) (s .args .q) (s .pre .0) (s .pre .1)), search needs, λ j h. absurd (omega arith))
 
 line-at-requires : tie.Need-line-at-requires Inv-loop μ-loop
 line-at-requires c κs = search needs
@@ -59,7 +59,7 @@ frame-lines-spec =
     (tie.spec
     Inv-loop
     μ-loop
-    steps-requires
+    gap-requires
     loop-holds
     line-at-requires
     mul-t

@@ -19,8 +19,8 @@ element-copy-out-wide-2 c = search needs
 wide-requires-2 : tie.Need-wide-requires-2
 wide-requires-2 c κs = search needs
 
-steps-requires : tie.Need-steps-requires
-steps-requires c κs = search needs
+gap-requires : tie.Need-gap-requires
+gap-requires c κs = search needs
 
 add-result : tie.Need-add-result
 add-result c =
@@ -28,13 +28,13 @@ add-result c =
     let s = w .before .before .before .before in
     let p = s .pre .1 (s .args .centre) (s .pre .2) in
     let g = gap-lt 64 (firstOf (s .args .t1) (s .args .centre)) (secondOf (s .args .t1) (s .args .centre)) (p .0) (p .1) in
-    let e = rw (w .wide2 .ensures, w .before .before .wide .ensures) at (c .steps .ensures) in
+    let e = rw (w .wide2 .ensures, w .before .before .wide .ensures) at (c .gap .ensures) in
     omega arith
 
 returns : tie.Need-returns
 returns c =
     let w = c .before in
-    rw (add-one, c .steps .ensures, w .wide2 .ensures, w .before .before .wide .ensures)
+    rw (add-one, c .gap .ensures, w .wide2 .ensures, w .before .before .wide .ensures)
 
 pub line-count-spec : {M : Type 1} → statement M
 line-count-spec =
@@ -44,6 +44,6 @@ line-count-spec =
     wide-requires
     element-copy-out-wide-2
     wide-requires-2
-    steps-requires
+    gap-requires
     add-result
     returns)

@@ -10,8 +10,8 @@ unless-own-requires c κs = search needs
 unless-own-requires-2 : tie.Need-unless-own-requires-2
 unless-own-requires-2 c κs = search needs
 
-larger-requires : tie.Need-larger-requires
-larger-requires c κs = search needs
+most-requires : tie.Need-most-requires
+most-requires c κs = search needs
 
 wide-requires : tie.Need-wide-requires
 wide-requires c κs = search needs
@@ -29,7 +29,7 @@ returns : tie.Need-returns
 unfolding beginsWith
 returns c =
     let l = c .before .before .before in
-    rw (c .wide3 .ensures, c .before .wide2 .ensures, c .before .before .wide .ensures, l .larger .ensures, l .before .unless-own2 .ensures .0, l .before .before .unless-own .ensures .0)
+    rw (c .wide3 .ensures, c .before .wide2 .ensures, c .before .before .wide .ensures, l .most .ensures, l .before .unless-own2 .ensures .0, l .before .before .unless-own .ensures .0)
 
 pub begins-spec : {M : Type 1} → statement M
 begins-spec =
@@ -37,7 +37,7 @@ begins-spec =
     (tie.spec
     unless-own-requires
     unless-own-requires-2
-    larger-requires
+    most-requires
     wide-requires
     wide-requires-2
     add-result

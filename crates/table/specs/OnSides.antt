@@ -27,7 +27,7 @@ abbrev pub secondAt : Side → Side → ℕ → Dir → ℕ
 secondAt xs ys k d = secondOf (sideAt xs ys d) k
 
 -- the sides hold the runs' lines on the grid, and the leaves are the runs that the centre c meets
-pub record OnLines (grid : Grid) (runs : List Run) (xs ys : Side) (c leaves : ℕ) : Type 0 where
+pub record OnSides (grid : Grid) (runs : List Run) (xs ys : Side) (c leaves : ℕ) : Type 0 where
   pub few : length runs ≤ 32
   pub first-at : (k : ℕ) → k < length runs → Indexed grid (runAt runs k .first) (firstAt xs ys k)
   pub second-at : (k : ℕ) → k < length runs → Indexed grid (runAt runs k .second) (secondAt xs ys k)

@@ -1,12 +1,11 @@
--- One of the two differences is 0.
-use borrow.Author.Needs.{needs}
+-- The larger less the smaller is the gap.
 use native.Mathlib.Omega.{arith}
 use Rattle.network.specs.Plane.{gap}
-use Rattle.layout.proofs.gap.Statement.{statement}
-use Rattle.layout.proofs.gap.Tie as tie
+use Rattle.table.proofs.frame.gap.Statement.{statement}
+use Rattle.table.proofs.frame.gap.Tie as tie
 
 sub-result : tie.Need-sub-result
-sub-result c = search needs
+sub-result c = omega arith
 
 returns : tie.Need-returns
 unfolding gap
