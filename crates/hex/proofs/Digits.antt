@@ -7,7 +7,7 @@ use native.Mathlib.Numerals.{add-one}
 use native.Mathlib.Decide.{decLe}
 use native.Mathlib.Omega.{arith}
 use borrow.Author.Tests.{le-leb, lt-leb}
-use lib.ListN.{length, take, drop, set, getD, length-append, length-take, length-drop, length-set}
+use lib.ListN.{length, take, drop, set, getD, length-set}
 use lib.Seq.{take-all, length-take-le, paste, paste-zero, paste-suc}
 use Rattle.io.proofs.Counting.{counts}
 use Rattle.hex.specs.Digits.{digitOf, bytesOf, Unhexed}

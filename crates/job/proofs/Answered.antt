@@ -11,8 +11,8 @@ use Rattle.job.specs.declared.Answer.{Answer}
 use Rattle.job.specs.declared.Reading.{Reading}
 use Rattle.job.specs.declared.Answer.the-variants.{Accepted, Refused}
 use Rattle.job.specs.Parse.{Parsed, accepted, refused, parse}
-use Rattle.job.specs.Refusal.{refusalNumber, answerNumber, answerPlace}
-use Rattle.job.specs.Reading.{jobOf, numberSaid, placeSaid, jobSaid, Reads}
+use Rattle.job.specs.Refusal.{refusalNumber}
+use Rattle.job.specs.Reading.{answerNumber, answerPlace, jobOf, numberSaid, placeSaid, jobSaid, Reads}
 use Rattle.job.specs.Written.{Bytes, WellFormed}
 use Rattle.job.proofs.Order.{same-refusal}
 use Rattle.job.proofs.Accepted.{accepted-well-formed}

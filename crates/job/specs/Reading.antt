@@ -5,11 +5,22 @@ use Prim.Native.Nat.{ℕ, _-_}
 use mathlib.Core.Path.{_≡_}
 use mathlib.Core.List.{List, [], map, _++_}
 use lib.ListN.{length, replicate}
-use Rattle.job.specs.Refusal.{refusalNumber, refusalPlace, answerNumber, answerPlace}
+use Rattle.job.specs.Refusal.{refusalNumber, refusalPlace}
 use Rattle.job.specs.Parse.{Parsed, accepted, refused, parse}
 use Rattle.job.specs.declared.Run.{Run}
 use Rattle.job.specs.declared.Job.{Job}
+use Rattle.job.specs.declared.Answer.{Answer}
+use Rattle.job.specs.declared.Answer.the-variants.{Accepted, Refused}
 use Rattle.job.specs.declared.Reading.{Reading}
+
+-- Document 01's number and place of an answer, by its cases: those of its refusal, and 0 and 0 where the job is accepted.
+abbrev pub answerNumber : Answer → ℕ
+answerNumber Accepted = 0
+answerNumber (Refused x) = refusalNumber x
+
+abbrev pub answerPlace : Answer → ℕ
+answerPlace Accepted = 0
+answerPlace (Refused x) = refusalPlace x
 
 -- a field of every run, and 0 after the last
 abbrev pub column : (Run → ℕ) → List Run → List ℕ

@@ -2,8 +2,6 @@
 -- place 0.
 -- Assumes nothing.
 use Prim.Native.Nat.{ℕ}
-use Rattle.job.specs.declared.Answer.{Answer}
-use Rattle.job.specs.declared.Answer.the-variants.{Accepted, Refused}
 use Rattle.job.specs.declared.Refusal.{Refusal}
 use Rattle.job.specs.declared.Refusal.the-variants.{ShortWork, ShortPlan, Cut, UnknownKind, Misplaced, WrongCount, WrongNumber, OutOfRange, TooManyRuns, NoRuns, NoStar}
 
@@ -32,12 +30,3 @@ refusalPlace (OutOfRange at) = at
 refusalPlace (TooManyRuns at) = at
 refusalPlace (NoRuns at) = at
 refusalPlace NoStar = 0
-
--- an answer has those of its refusal; 0 and 0 where the job is accepted
-abbrev pub answerNumber : Answer → ℕ
-answerNumber Accepted = 0
-answerNumber (Refused x) = refusalNumber x
-
-abbrev pub answerPlace : Answer → ℕ
-answerPlace Accepted = 0
-answerPlace (Refused x) = refusalPlace x

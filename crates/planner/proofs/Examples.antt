@@ -34,7 +34,8 @@ use Rattle.job.proofs.Written.{written-read}
 use Rattle.plan.specs.declared.Head.{Head}
 use Rattle.plan.specs.Plan.{Entry, bookBytes, entriesFrom, headOf, meetsOf, drawnBytes, planBytes}
 use Rattle.planner.specs.Verdict.{centresOf, isStar, judged, verdict}
-use Rattle.planner.specs.Call.{runsOf, numbersOf, planHead, planEntries, Said, gives}
+use Rattle.planner.specs.Call.{runsOf, numbersOf, Said, gives}
+use Rattle.planner.specs.Figures.{planHead, planEntries}
 use Rattle.planner.specs.Outcome.{Outcome}
 use Rattle.planner.specs.Examples.{Figures, refused-11, figures, figures-pits, Example, examples, HasVerdict, LeastOf, HoldsOf, Holds, job7Runs, job7Head, job7Entries, HasOnePlan}
 use Rattle.planner.proofs.Verdicts.{enough}

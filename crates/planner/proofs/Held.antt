@@ -84,10 +84,7 @@ pub length-plane : (j : Job) → length (runsOf (runsIn j)) ≡ j .count
 length-plane j = length-map (runsIn j) runOf ∙ length-held j
 
 module _ (j : Job) (h : Held j) where
-  -- there are 1 to 32 runs
-  pub held-some : 1 ≤ j .count
-  held-some = omega (arith, length-held j, h .well-formed .some)
-
+  -- there are at most 32 runs
   pub held-few : j .count ≤ 32
   held-few = omega (arith, length-held j, h .well-formed .most)
 

@@ -2,7 +2,6 @@
 pub mod Stars
 pub mod First
 pub mod Demands
-pub mod Centred
 pub mod Fits
 pub mod Examples
 pub mod Held

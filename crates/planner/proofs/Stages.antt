@@ -11,7 +11,6 @@ use Rattle.network.specs.Plane.{Run}
 use Rattle.network.specs.Hanan.{hanan}
 use Rattle.network.specs.Graph.{meets, below, isCentre}
 use Rattle.network.specs.Steps.{hor, ver}
-use Rattle.grid.specs.Runs as grid
 use Rattle.grid.proofs.Hanan.{axis-columns, axis-rows}
 use Rattle.intersection.specs.Sets.{has}
 use Rattle.intersection.specs.Star.{meetsIn, starOf}
@@ -35,7 +34,7 @@ use Rattle.planner.specs.Outcome.{Outcome}
 use Rattle.planner.specs.Held.{runsIn}
 use Rattle.planner.specs.Stages.{tableWords, Enough, Starred, Surveys, StarSurveyed, LaidOut, Lined, drawnBy, Left}
 use Rattle.planner.proofs.Held.{length-held, plane-held, length-plane, held-few, held-range}
-use Rattle.planner.proofs.Centred.{first-centre}
+use Rattle.planner.proofs.Stars.{first-centre}
 use Rattle.planner.proofs.Fits.{lines-most}
 use Rattle.planner.proofs.Writing.{centre-listed}
 use Rattle.planner.proofs.Verdicts.{enough}

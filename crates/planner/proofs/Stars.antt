@@ -1,15 +1,16 @@
 -- What is judged of the bytes of a job: accepted exactly if they are a well-formed job written down, and its runs form a star.
-use mathlib.Core.Path.{_≡_, refl, sym, ap, _∙_, subst}
+use mathlib.Core.Path.{_≡_, refl, sym, _∙_, subst}
 use mathlib.Core.Bool.{Bool, true, false, cond, true≢false}
 use mathlib.Core.Logic.{_⊎_, inl, inr}
 use mathlib.Core.List.{List, [], _∷_}
-use Prim.Native.Nat.{ℕ, _≤_}
+use Prim.Native.Nat.{ℕ, _≤_, _<_}
 use native.Mathlib.Omega.{arith}
 use lib.ListN.{length}
 use Rattle.network.specs.Plane.{Run}
 use Rattle.network.specs.Hanan.{hanan}
-use Rattle.network.specs.Graph.{meets, below, centres}
-use Rattle.network.proofs.Centres.{centres-first, centres-none}
+use Rattle.network.specs.Graph.{meets, below, isCentre, centres}
+use Rattle.network.proofs.Centres.{centre-true, true-centre, centres-first, centres-none}
+use Rattle.network.proofs.Leaves.{below-member, member-below}
 use Rattle.network.specs.Entries.{below-rises}
 use Rattle.job.specs.declared.Run.{Run as Read}
 use Rattle.job.specs.declared.Refusal.{Refusal}
@@ -23,22 +24,31 @@ use Rattle.planner.specs.Demands.{JobIn, IsStar}
 
 -- ---- the intersection graph is a star
 
+-- the first centre is a run of the job, and a centre
+pub first-centre : (runs : List Run) (c : ℕ) (rest : List ℕ) → centresOf runs ≡ c ∷ rest
+    → (c < length runs) × (isCentre (meets (hanan runs) runs) (below (length runs)) c ≡ true)
+unfolding centresOf
+first-centre runs c rest e =
+    let (s, n) = centres-first (meets (hanan runs) runs) (below (length runs)) (below-rises (length runs)) c rest e in
+    (below-member (length runs) c (s .member), true-centre (meets (hanan runs) runs) (below (length runs)) c s)
+
 -- the test finds a centre exactly if there is one
 star-is : (runs : List Run) → isStar (centresOf runs) ≡ true → IsStar runs
-unfolding centresOf
-star-is runs h = go (centres (meets (hanan runs) runs) (below (length runs))) refl h
+star-is runs h = go (centresOf runs) refl h
   where
-    go : (l : List ℕ) → centres (meets (hanan runs) runs) (below (length runs)) ≡ l → isStar l ≡ true → IsStar runs
+    go : (l : List ℕ) → centresOf runs ≡ l → isStar l ≡ true → IsStar runs
     go [] e k = absurd (true≢false (sym k))
-    go (c ∷ rest) e k =
-        record { centre = c; is = centres-first (meets (hanan runs) runs) (below (length runs)) (below-rises (length runs)) c rest e .0 }
+    go (c ∷ rest) e k = let (i, s) = first-centre runs c rest e in record { centre = c; listed = i; is = s }
 
 is-star : (runs : List Run) → IsStar runs → isStar (centresOf runs) ≡ true
 unfolding centresOf
 is-star runs s = go (centres (meets (hanan runs) runs) (below (length runs))) refl
   where
     go : (l : List ℕ) → centres (meets (hanan runs) runs) (below (length runs)) ≡ l → isStar l ≡ true
-    go [] e = absurd (centres-none (meets (hanan runs) runs) (below (length runs)) e (s .centre) (s .is))
+    go [] e =
+        absurd
+        (centres-none (meets (hanan runs) runs) (below (length runs)) e (s .centre)
+        (centre-true (meets (hanan runs) runs) (below (length runs)) (s .centre) (member-below (length runs) (s .centre) (s .listed)) (s .is)))
     go (c ∷ rest) e = refl
 
 -- ---- the bytes

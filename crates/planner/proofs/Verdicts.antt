@@ -13,7 +13,7 @@ use Rattle.job.specs.declared.Refusal.the-variants.{ShortWork, ShortPlan, NoSta
 use Rattle.job.specs.Parse.{accepted, refused, parse}
 use Rattle.intersection.specs.declared.Star.the-variants as star
 use Rattle.intersection.specs.Star.{starOf}
-use Rattle.planner.specs.declared.Answer.the-variants.{Planned, Refused}
+use Rattle.planner.specs.declared.Answer.the-variants.{Refused}
 use Rattle.planner.specs.Verdict.{centresOf, isStar, judged, verdict}
 use Rattle.planner.specs.Call.{runsOf, Said, gives, refuses, said, Plans}
 use Rattle.planner.specs.Outcome.{Outcome}

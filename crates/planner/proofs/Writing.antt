@@ -31,7 +31,7 @@ use Rattle.planner.specs.Held.{runsIn, Held}
 use Rattle.planner.specs.declared.star.Layout.{Layout}
 use Rattle.planner.specs.Stages.{LaidOut, Lined, drawnBy, ownOf}
 use Rattle.planner.proofs.Held.{length-held, length-plane, held-few, numbers-held}
-use Rattle.planner.proofs.Centred.{first-centre}
+use Rattle.planner.proofs.Stars.{first-centre}
 use Rattle.planner.proofs.Fits.{few-lines}
 
 all-imp : {A : Type 0} (P Q : A → Type 0) → ((a : A) → P a → Q a) → (l : List A) → All P l → All Q l

@@ -4,15 +4,13 @@ use mathlib.Core.Path.{_≡_}
 use mathlib.Core.List.{List, _++_, map}
 use Prim.Native.Nat.{ℕ}
 use lib.IntN.{ℤ, pos, negℤ}
-use lib.ListN.{length, getD, drop, replicate}
+use lib.ListN.{length, drop, replicate}
 use Rattle.network.specs.Plane.{Run, _to_}
 use Rattle.network.specs.Hanan.{hanan}
 use Rattle.network.specs.Route.{Route, Least}
-use Rattle.network.specs.Corners.{corners}
 use Rattle.job.specs.declared.Run.{Run as Read}
 use Rattle.job.specs.Refusal.{refusalNumber, refusalPlace}
-use Rattle.plan.specs.declared.Head.{Head}
-use Rattle.plan.specs.Plan.{Entry, entriesFrom, headOf, meetsOf, planBytes}
+use Rattle.plan.specs.Plan.{planBytes}
 use Rattle.planner.specs.declared.Answer.{Answer}
 use Rattle.planner.specs.declared.Answer.the-variants.{Planned, Refused}
 
@@ -26,13 +24,6 @@ runsOf runs = map runOf runs
 
 abbrev pub numbersOf : List Read → List ℕ
 numbersOf runs = map (λ r. r .number) runs
-
--- the plan's head, what it says of each run, and its bytes
-abbrev pub planHead : (number : ℕ) (runs : List Read) → List Route → Head
-planHead number runs routes = headOf number (numbersOf runs) (runsOf runs) (map corners routes)
-
-abbrev pub planEntries : (runs : List Read) → List Route → List Entry
-planEntries runs routes = entriesFrom (λ i. getD (numbersOf runs) i 0) (meetsOf (runsOf runs)) 0 (map corners routes)
 
 abbrev pub planOf : (number : ℕ) (runs : List Read) → List Route → List ℕ
 planOf number runs routes = planBytes number (numbersOf runs) (runsOf runs) routes

@@ -1,5 +1,6 @@
 -- THE THREE DEMANDS of a call, from what it is lent, what it says and what it leaves: of `plan`, and of the map screen's function, alike.
 use mathlib.Core.Path.{_≡_}
+use mathlib.Core.Bool.{true}
 use mathlib.Core.Logic.{_↔_}
 use mathlib.Core.List.{List, map}
 use Prim.Native.Nat.{ℕ, _≤_, _<_}
@@ -9,7 +10,7 @@ use Rattle.network.specs.Lists.{All}
 use Rattle.network.specs.Plane.{Run}
 use Rattle.network.specs.Hanan.{hanan}
 use Rattle.network.specs.Route.{unionLength, Least}
-use Rattle.network.specs.Graph.{meets, below, IsCentre}
+use Rattle.network.specs.Graph.{meets, below, isCentre}
 use Rattle.job.specs.declared.Run.{Run as Read}
 use Rattle.job.specs.declared.Refusal.{Refusal}
 use Rattle.job.specs.declared.Refusal.the-variants.{ShortWork, ShortPlan, NoStar}
@@ -33,7 +34,8 @@ pub record JobIn (job : List ℕ) : Type 0 where
 -- "The job is a star when some run, the centre, meets every other run and no two others meet" (01, Lines, boxes, meeting)
 pub record IsStar (runs : List Run) : Type 0 where
   pub centre : ℕ
-  pub is : IsCentre (meets (hanan runs) runs) (below (length runs)) centre
+  pub listed : centre < length runs
+  pub is : isCentre (meets (hanan runs) runs) (below (length runs)) centre ≡ true
 
 -- the words and bytes that are lent are enough, and the job is well formed and a star
 pub record Admitted (job : List ℕ) (words bytes : ℕ) : Type 0 where

@@ -14,7 +14,8 @@ use Rattle.job.specs.Written.{bytesOf}
 use Rattle.plan.specs.declared.Head.{Head}
 use Rattle.plan.specs.Plan.{Entry, bookBytes}
 use Rattle.planner.specs.Verdict.{verdict}
-use Rattle.planner.specs.Call.{runsOf, planHead, planEntries, planOf}
+use Rattle.planner.specs.Call.{runsOf, planOf}
+use Rattle.planner.specs.Figures.{planHead, planEntries}
 
 -- ---- jobs as written
 

@@ -1,3 +1,4 @@
 pub mod Lines
 pub mod Answered
 pub mod Reported
+pub mod Sample

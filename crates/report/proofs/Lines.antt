@@ -18,7 +18,8 @@ use Rattle.plan.specs.Plan.{entriesFrom, meetsOf, drawnBytes, planBytes}
 use Rattle.plan.proofs.Length.{entries-all, entries-length}
 use Rattle.plan.specs.Fits.{EntryFits, PointIn}
 use Rattle.plan.proofs.Whole.{routes-few}
-use Rattle.planner.specs.Call.{runOf, runsOf, numbersOf, planHead, planEntries, planOf}
+use Rattle.planner.specs.Call.{runOf, runsOf, numbersOf, planOf}
+use Rattle.planner.specs.Figures.{planHead, planEntries}
 use Rattle.planner.proofs.Fits.{corners-in, head-fits, few-lines, number-bounded}
 use Rattle.text.specs.Text.{planText}
 use Rattle.text.specs.Listing.{listingOf}

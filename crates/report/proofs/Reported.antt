@@ -3,7 +3,7 @@
 use mathlib.Core.Path.{_≡_, refl, sym, ap, _∙_}
 use mathlib.Core.Logic.{_⊎_, inl, inr}
 use mathlib.Core.List.{List, [], _++_, append-nil}
-use Prim.Native.Nat.{ℕ, _≤_, _<_, _^_}
+use Prim.Native.Nat.{ℕ, _≤_}
 use native.Mathlib.Omega.{arith}
 use lib.ListN.{length, take, length-append, length-take}
 use lib.Seq.{take-at}
@@ -21,7 +21,8 @@ use Rattle.job.proofs.Prefix.{parse-prefix}
 use Rattle.plan.specs.Writers.{Wrote}
 use Rattle.planner.specs.declared.Answer.{Answer}
 use Rattle.planner.specs.declared.Answer.the-variants.{Planned, Refused}
-use Rattle.planner.specs.Call.{runsOf, planHead, planEntries, planOf}
+use Rattle.planner.specs.Call.{runsOf, planOf}
+use Rattle.planner.specs.Figures.{planHead, planEntries}
 use Rattle.planner.specs.Verdict.{judged}
 use Rattle.planner.specs.Demands.{IsStar}
 use Rattle.planner.proofs.Stars.{judged-refuses, job-star}
@@ -30,7 +31,7 @@ use Rattle.text.specs.Listing.{listingOf}
 use Rattle.text.specs.Listed.{Listed}
 use Rattle.text.proofs.Listed.{listed-whole}
 use Rattle.text.proofs.Length.{refusal-length}
-use Rattle.report.specs.Report.{Lists, Reported}
+use Rattle.report.specs.Report.{Reported}
 use Rattle.report.proofs.Lines.{plan-lists, plan-room}
 use Rattle.report.proofs.Answered.{Answered, planned, refusing}
 

@@ -5,7 +5,8 @@ use Rattle.network.specs.Hanan.{hanan}
 use Rattle.network.specs.Route.{Route, Least}
 use Rattle.job.specs.declared.Run.{Run as Read}
 use Rattle.job.specs.Parse.{Parsed, accepted, refused}
-use Rattle.planner.specs.Call.{runsOf, planHead, planEntries}
+use Rattle.planner.specs.Call.{runsOf}
+use Rattle.planner.specs.Figures.{planHead, planEntries}
 use Rattle.text.specs.Text.{planText, refusalText}
 use Rattle.text.specs.Listed.{Listed}
 

@@ -1,7 +1,7 @@
 -- How long texts are: a plan's has at most 85 characters for the head, 37 for each run and 18 for each corner, a refusal's at most 35. So a buffer of
 -- 74,421 bytes has room for each.
 use mathlib.Core.List.{List, [], _∷_, _++_, flatMap}
-use Prim.Native.Nat.{ℕ, _+_, _*_, _≤_, _<_, _^_}
+use Prim.Native.Nat.{_+_, _*_, _≤_, _<_, _^_}
 use native.Mathlib.Omega.{arith}
 use lib.ListN.{length, length-append}
 use Rattle.network.specs.Lists.{All}

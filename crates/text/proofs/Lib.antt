@@ -5,4 +5,3 @@ pub mod Records
 pub mod Listing
 pub mod Plan
 pub mod Length
-pub mod Worked

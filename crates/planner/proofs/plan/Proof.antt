@@ -7,10 +7,6 @@ use Rattle.planner.proofs.Verdicts.{short-work, short-plan}
 use Rattle.planner.proofs.Stages.{words-most, still-words, then-cleared, all-kept, decided}
 use Rattle.planner.proofs.plan.Statement.{statement}
 use Rattle.planner.proofs.plan.Tie as tie
-use Rattle.planner.proofs.plan.Reads as reads
-use Rattle.planner.proofs.plan.Lts as lts
-use Rattle.planner.proofs.plan_in.Reads as plan-in-reads
-use Rattle.planner.proofs.clear.clear.Reads as clear-reads
 
 returns : tie.Need-returns
 returns c = let a = c .before .before .before .before .args in (short-work (now (a .job)) (now (a .out)) _ (c .if1 .taken), refl)

@@ -8,10 +8,6 @@ use Rattle.planner.proofs.Held.{reading-held, length-held, held-few}
 use Rattle.planner.proofs.Verdicts.{read-refused, read-accepted}
 use Rattle.planner.proofs.plan_in.Statement.{statement}
 use Rattle.planner.proofs.plan_in.Tie as tie
-use Rattle.planner.proofs.plan_in.Reads as reads
-use Rattle.planner.proofs.plan_in.Lts as lts
-use Rattle.job.proofs.read.Reads as read-reads
-use Rattle.planner.proofs.plan_job.Reads as plan-job-reads
 
 read-requires : tie.Need-read-requires
 read-requires c κs = search needs

@@ -15,11 +15,6 @@ use Rattle.planner.proofs.Judged.{star-judged}
 use Rattle.planner.proofs.Verdicts.{no-star, star-planned}
 use Rattle.planner.proofs.plan_job.Statement.{statement}
 use Rattle.planner.proofs.plan_job.Tie as tie
-use Rattle.planner.proofs.plan_job.Reads as reads
-use Rattle.planner.proofs.plan_job.Lts as lts
-use Rattle.planner.proofs.judge.neighbours_of.Reads as neighbours-of-reads
-use Rattle.planner.proofs.judge.star_in.Reads as star-in-reads
-use Rattle.planner.proofs.plan_star.Reads as plan-star-reads
 
 -- what the star test says is the star of the job
 judged : (j : Job) → Held j → (sets : List ℕ) → sets ≡ neighbourSets (meetsIn (runsOf (runsIn j))) (j .count) → (found : Star)

@@ -8,12 +8,6 @@ use Rattle.planner.proofs.Writing.{centre-listed}
 use Rattle.planner.proofs.Stages.{star-surveyed, axes-lined, drawn}
 use Rattle.planner.proofs.plan_star.Statement.{statement}
 use Rattle.planner.proofs.plan_star.Tie as tie
-use Rattle.planner.proofs.plan_star.Reads as reads
-use Rattle.planner.proofs.plan_star.Lts as lts
-use Rattle.planner.proofs.star.columns_of.Reads as columns-of-reads
-use Rattle.planner.proofs.star.lay.Reads as lay-reads
-use Rattle.planner.proofs.star.rows_of.Reads as rows-of-reads
-use Rattle.planner.proofs.star.write.Reads as write-reads
 
 columns-of-requires : tie.Need-columns-of-requires
 columns-of-requires c κs = held-few (c .before .before .args .j) (c .before .before .pre .0 .held)

@@ -4,11 +4,6 @@ use borrow.Author.Needs.{needs}
 use Rattle.planner.proofs.MapScreen.{told-short, told-few, told-planned, told-refused}
 use Rattle.planner.proofs.trench_plan.Statement.{statement}
 use Rattle.planner.proofs.trench_plan.Tie as tie
-use Rattle.planner.proofs.trench_plan.Reads as reads
-use Rattle.planner.proofs.trench_plan.Lts as lts
-use Rattle.planner.proofs.codes.code_of.Reads as code-of-reads
-use Rattle.planner.proofs.codes.length_code.Reads as length-code-reads
-use Rattle.planner.proofs.plan_own.Reads as plan-own-reads
 
 code-of-requires : tie.Need-code-of-requires
 code-of-requires c κs = search needs

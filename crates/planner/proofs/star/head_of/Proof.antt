@@ -5,9 +5,6 @@ use Rattle.planner.proofs.Held.{held-few}
 use Rattle.planner.proofs.Writing.{centre-listed, on-indexes, saved-below, head-is}
 use Rattle.planner.proofs.star.head_of.Statement.{statement}
 use Rattle.planner.proofs.star.head_of.Tie as tie
-use Rattle.planner.proofs.star.head_of.Reads as reads
-use Rattle.planner.proofs.star.head_of.Lts as lts
-use Rattle.route.proofs.pits.Reads as pits-reads
 
 pits-requires : tie.Need-pits-requires
 pits-requires c κs = let a = c .before .before in (held-few (a .args .j) (a .pre .held), on-indexes (a .args .j) (a .pre .held) (a .args .laid) (a .pre .laid-out))

@@ -8,13 +8,6 @@ use Rattle.planner.specs.Stages.{tableWords}
 use Rattle.planner.proofs.Laying.{group-asks, group-fits, work-beyond, walk-fits, laid-out}
 use Rattle.planner.proofs.star.lay.Statement.{statement}
 use Rattle.planner.proofs.star.lay.Tie as tie
-use Rattle.planner.proofs.star.lay.Reads as reads
-use Rattle.planner.proofs.star.lay.Lts as lts
-use Rattle.layout.proofs.routes.Reads as routes-reads
-use Rattle.table.proofs.fill.figure_of.Reads as figure-of-reads
-use Rattle.table.proofs.fill.fill.Reads as fill-reads
-use Rattle.table.proofs.frame.group_of.Reads as group-of-reads
-use Rattle.table.proofs.trace.trace_of.Reads as trace-of-reads
 
 group-of-requires : tie.Need-group-of-requires
 group-of-requires c κs = group-asks _ _ _ _ _ _ (c .before .pre .0 .1)

@@ -20,8 +20,6 @@ use Rattle.planner.proofs.Judged.{meets-judged}
 use Rattle.planner.proofs.Writing.{on-indexes, bytes-are, bytes-fit}
 use Rattle.planner.proofs.star.write.Statement.{statement}
 use Rattle.planner.proofs.star.write.Tie as tie
-use Rattle.planner.proofs.star.write.Reads as reads
-use Rattle.planner.proofs.star.write.Lts as lts
 
 -- the meets figures are the plan's
 meets-are : (j : Job) (sets : List ℕ) {c : ℕ} → Starred j sets c → (ms : List ℕ)
