@@ -82,41 +82,35 @@ fn print_kept(kept: bool) {
     }
 }
 
-// The figures of the record that the bytes begin with. The answer is how many bytes it has; at the end record, more than there are.
-fn print_record(plan: &[u8]) -> usize
-    ensures { λ r. ⌜ 1 ≤ r ⌝ }
-{
-    match text::first_record(plan) {
+// The figures of a record.
+fn print_record(found: Record) {
+    match found {
         Record::Head(head) => {
             print_number(head.centre as u64);
             print_number(head.trench as u64);
             print_number(head.saved as u64);
             print(b" :");
-            19
         }
         Record::Route {
             number,
             meets,
             corners,
-        } => {
-            print_number(meets as u64);
-            7
-        }
-        Record::Corner { x, y } => 9,
-        Record::End => 65536,
-        Record::Other => {
-            print(b" other");
-            65536
-        }
+        } => print_number(meets as u64),
+        Record::Corner { x, y } => {}
+        Record::End => {}
+        Record::Other => print(b" other"),
     }
 }
 
-// The figures of a plan; the answer is the place of its end record.
+// The figures of a plan; the answer is the place of its end record, which takes all bytes that are left.
 fn print_figures(plan: &[u8]) -> usize {
     let mut at: usize = 0;
     while at < plan.len() {
-        let size = print_record(&plan[at..]);
-        if size > plan.len() - at {
+        let found = text::first_record(&plan[at..]);
+        print_record(found);
+        let left = plan.len() - at;
+        let size = text::record_size(found, left);
+        if size >= left {
             return at;
         }
         at += size;

@@ -36,7 +36,7 @@ unfolding over
 cut-same t xs ys n w = ap length (w .bytes) ∙ simp (length-append, length-drop) (omega (arith, cut-length t xs))
 
 -- what follows from the bytes that were written
-pub listed : (t xs ys : List ℕ) (n : ℕ) → Wrote (take (length xs) t) xs ys n → Listed t xs ys n
+listed : (t xs ys : List ℕ) (n : ℕ) → Wrote (take (length xs) t) xs ys n → Listed t xs ys n
 listed t xs ys n w =
     let h : n ≤ length ys = omega (arith, w .size, cut-length t xs, cut-same t xs ys n w) in
     record { wrote = w; within = h; front = omega (arith, length-take n ys) }

@@ -1,6 +1,7 @@
 -- The text of any bytes: record by record, up to the first that is an end or no whole record. Of a plan it is the plan's text (`proofs/Plan.antt`).
+use mathlib.Core.Path.{_≡_}
 use mathlib.Core.List.{List, [], _++_}
-use Prim.Native.Nat.{ℕ, zero, suc}
+use Prim.Native.Nat.{ℕ, zero, suc, _-_, _≤_}
 use lib.ListN.{length, drop}
 use mir.Syntax.{w32}
 use mir.Val.{toZ}
@@ -26,6 +27,11 @@ recordSize (rec.Route number meets corners) left = 7
 recordSize (rec.Corner x y) left = 9
 recordSize rec.End left = left
 recordSize rec.Other left = left
+
+-- The same of a record that takes r bytes. The second field follows from the first: a reader that goes on behind the record comes to the end.
+pub record Sized (it : Record) (left r : ℕ) : Type 0 where
+  pub size : r ≡ recordSize it left
+  pub some : left - r ≤ left - 1
 
 -- the text of at most so many records
 unfoldable pub listingFrom : (records : ℕ) → List ℕ → List ℕ

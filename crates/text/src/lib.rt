@@ -11,7 +11,7 @@ ghost use mir.Val.{toZ};
 ghost use Rattle.text.specs.Numerals.{ascii, decimal, signed};
 ghost use Rattle.text.specs.Text.{figuresText, headText, routeText, cornerText, refusedText, refusalText};
 ghost use Rattle.text.specs.Records.{headBody, decoded, recordOf};
-ghost use Rattle.text.specs.Listing.{listingOf};
+ghost use Rattle.text.specs.Listing.{recordText, Sized, listingOf};
 ghost use Rattle.text.specs.Listed.{Listed, ListedRecord};
 
 // What stands at a place of a plan: a whole record, or what is none of the four kinds.
@@ -206,35 +206,48 @@ pub fn first_record(plan: &[u8]) -> Record
     decode(plan[0], &plan[1..])
 }
 
-// Lists the record that the bytes begin with. What ends the listing passes over all bytes.
-fn list_record(plan: &[u8], text: &mut [u8]) -> Step
-    ensures { λ s. ⌜ ListedRecord (now (plan .entry)) (now (text .entry)) (now (text .exit)) s ⌝ }
+// How many bytes a record takes; what ends a listing takes all that are left.
+pub fn record_size(found: Record, left: usize) -> usize
+    ensures { λ r. ⌜ Sized found left r ⌝ }
 {
-    match first_record(plan) {
-        Record::Head(head) => Step {
-            read: 19,
-            written: write_head(text, head),
-        },
+    match found {
+        Record::Head(head) => 19,
         Record::Route {
             number,
             meets,
             corners,
-        } => Step {
-            read: 7,
-            written: write_route(text, number, meets, corners),
-        },
-        Record::Corner { x, y } => Step {
-            read: 9,
-            written: write_corner(text, x, y),
-        },
-        Record::End => Step {
-            read: plan.len(),
-            written: write_byte(text, b'\n'),
-        },
-        Record::Other => Step {
-            read: plan.len(),
-            written: 0,
-        },
+        } => 7,
+        Record::Corner { x, y } => 9,
+        Record::End => left,
+        Record::Other => left,
+    }
+}
+
+fn write_record(text: &mut [u8], found: Record) -> usize
+    ensures { λ n. ⌜ Listed (recordText found) (now (text .entry)) (now (text .exit)) n ⌝ }
+{
+    match found {
+        Record::Head(head) => write_head(text, head),
+        Record::Route {
+            number,
+            meets,
+            corners,
+        } => write_route(text, number, meets, corners),
+        Record::Corner { x, y } => write_corner(text, x, y),
+        Record::End => write_byte(text, b'\n'),
+        Record::Other => 0,
+    }
+}
+
+// Lists the record that the bytes begin with.
+fn list_record(plan: &[u8], text: &mut [u8]) -> Step
+    ensures { λ s. ⌜ ListedRecord (now (plan .entry)) (now (text .entry)) (now (text .exit)) s ⌝ }
+{
+    let found = first_record(plan);
+    let written = write_record(text, found);
+    Step {
+        read: record_size(found, plan.len()),
+        written,
     }
 }
 

@@ -14,20 +14,26 @@ abbrev μ-loop : tie.MeasureT-loop
 loop-holds : tie.Need-loop-holds Inv-loop μ-loop
 loop-holds c = search needs
 
-sub-print-record : tie.Need-sub-print-record Inv-loop μ-loop
-sub-print-record c = search needs
+sub-first-record : tie.Need-sub-first-record Inv-loop μ-loop
+sub-first-record c = search needs
 
-part-print-record-start : tie.Need-part-print-record-start Inv-loop μ-loop
-part-print-record-start c = search needs
+part-first-record-start : tie.Need-part-first-record-start Inv-loop μ-loop
+part-first-record-start c = search needs
 
-part-print-record-end : tie.Need-part-print-record-end Inv-loop μ-loop
-part-print-record-end c = search needs
+part-first-record-end : tie.Need-part-first-record-end Inv-loop μ-loop
+part-first-record-end c = search needs
+
+first-record-requires : tie.Need-first-record-requires Inv-loop μ-loop
+first-record-requires c κs = search needs
 
 print-record-requires : tie.Need-print-record-requires Inv-loop μ-loop
 print-record-requires c κs = search needs
 
-sub-if1 : tie.Need-sub-if1 Inv-loop μ-loop
-sub-if1 c = search needs
+sub-left : tie.Need-sub-left Inv-loop μ-loop
+sub-left c = search needs
+
+record-size-requires : tie.Need-record-size-requires Inv-loop μ-loop
+record-size-requires c κs = search needs
 
 returns : tie.Need-returns Inv-loop μ-loop
 returns c = search needs
@@ -51,11 +57,13 @@ print-figures-spec =
     Inv-loop
     μ-loop
     loop-holds
-    sub-print-record
-    part-print-record-start
-    part-print-record-end
+    sub-first-record
+    part-first-record-start
+    part-first-record-end
+    first-record-requires
     print-record-requires
-    sub-if1
+    sub-left
+    record-size-requires
     returns
     add-at
     loop-less
