@@ -22,12 +22,6 @@ fn print_number(n: u64) {
     io::print_decimal(STDOUT_FILENO, n);
 }
 
-fn least(a: usize, b: usize) -> usize
-    ensures { λ r. ⌜ (r ≤ a) × (r ≤ b) ⌝ }
-{
-    if a < b { a } else { b }
-}
-
 // A step along the row is an r, any other letter is a step along the column.
 fn step_of(letter: u8) -> u8 {
     if letter == b'r' { 0 } else { letter }
@@ -35,7 +29,7 @@ fn step_of(letter: u8) -> u8 {
 
 fn route_of(letters: &[u8], column: usize, row: usize, right: bool, up: bool) -> Route {
     let mut steps = [0u8; 128];
-    let count = least(letters.len(), 128);
+    let count = hex::least(letters.len(), 128);
     let mut i: usize = 0;
     while i < count {
         steps[i] = step_of(letters[i]);
@@ -125,7 +119,7 @@ fn print_corners(route: Route)
 fn print_routes(routes: [Route; 32], count: usize)
     requires { ⌜ (count ≤ 32) × All (OnGrid numbered) (take count routes) ⌝ }
 {
-    let n = least(count, 3);
+    let n = hex::least(count, 3);
     let mut i: usize = 0;
     while i < n {
         print_corners(routes[i]);
