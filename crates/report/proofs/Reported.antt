@@ -41,10 +41,6 @@ use Rattle.report.proofs.Answered.{Answered, planned, refusing}
 judged-formed : (job : List ℕ) (number : ℕ) (runs : List Read) → Bytes job → judged (parse job) ≡ accepted number runs → WellFormed number runs
 judged-formed job number runs b e = job-star job b number runs e .0
 
--- a plan is no refusal
-no-answer : (n : ℕ) (x : Refusal) → Planned n ≡ Refused x → ⊥
-no-answer n x e = let z : _≡_ {A = ℕ} 0 1 = cc in omega arith
-
 -- ---- the answers of a call
 
 module _ (job : List ℕ) (answer : Answer) (plan : List ℕ) (s : Answered (judged (parse job)) answer plan) where
@@ -56,7 +52,7 @@ module _ (job : List ℕ) (answer : Answer) (plan : List ℕ) (s : Answered (jud
       go (planned number runs routes rest e least q p) =
           let same : length (planOf number runs routes) ≡ k = cc in
           omega (arith, ap length p, length-append (planOf number runs routes) rest)
-      go (refusing x e r) = absurd (no-answer k x (sym a ∙ r))
+      go (refusing x e r) = absurd (let z : _≡_ {A = ℕ} 0 1 = cc in omega arith)
 
   module _ (text text′ : List ℕ) (n : ℕ) where
     -- and their listing is what is due
@@ -72,14 +68,14 @@ module _ (job : List ℕ) (answer : Answer) (plan : List ℕ) (s : Answered (jud
               least = least;
               listed = rw (bytes, plan-lists number runs (judged-formed job number runs b e) routes (least .are-routes) []) at l;
             })
-        go (refusing x e r) = absurd (no-answer k x (sym a ∙ r))
+        go (refusing x e r) = absurd (let z : _≡_ {A = ℕ} 0 1 = cc in omega arith)
 
     -- so is a refusal's text
     pub refusal-reported : (x : Refusal) → answer ≡ Refused x → Listed (refusalText x) text text′ n → Reported (judged (parse job)) text text′ n
     refusal-reported x a l = go s
       where
         go : Answered (judged (parse job)) answer plan → Reported (judged (parse job)) text text′ n
-        go (planned number runs routes rest e least q p) = absurd (no-answer _ x (sym q ∙ a))
+        go (planned number runs routes rest e least q p) = absurd (let z : _≡_ {A = ℕ} 0 1 = cc in omega arith)
         go (refusing y e r) = let same : x ≡ y = cc in rw (e, ← same) l
 
 -- ---- a buffer with room
@@ -104,6 +100,7 @@ pub record ListsWhole (number : ℕ) (runs : List Read) (text text′ : List ℕ
   pub least : Least (hanan (runsOf runs)) (runsOf runs) routes
   pub wrote : Wrote (planText (planHead number runs routes) (planEntries runs routes)) text text′ n
 
+-- the same by the verdict
 abbrev pub ReportedWhole : Parsed → (text text′ : List ℕ) → ℕ → Type 0
 ReportedWhole (accepted number runs) text text′ n = ListsWhole number runs text text′ n
 ReportedWhole (refused x) text text′ n = Wrote (refusalText x) text text′ n
