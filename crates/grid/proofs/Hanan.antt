@@ -37,36 +37,42 @@ abbrev pairs : (Run → ℕ) → (Run → ℕ) → List Run → List ℕ
 pairs p q [] = []
 pairs p q (r ∷ runs) = p r ∷ q r ∷ pairs p q runs
 
+-- the x values are such pairs
 xs-are : (runs : List Run) → xs runs ≡ pairs (λ r. r .first .x) (λ r. r .second .x) runs
 xs-are [] = refl
 xs-are (r ∷ runs) = ap (λ l. r .first .x ∷ r .second .x ∷ l) (xs-are runs)
 
+-- and so are the y values
 ys-are : (runs : List Run) → ys runs ≡ pairs (λ r. r .first .y) (λ r. r .second .y) runs
 ys-are [] = refl
 ys-are (r ∷ runs) = ap (λ l. r .first .y ∷ r .second .y ∷ l) (ys-are runs)
 
 module _ (p q : Run → ℕ) where
+  -- the pairs of two lists
   pairs-append : (a b : List Run) → pairs p q (a ++ b) ≡ pairs p q a ++ pairs p q b
   pairs-append [] b = refl
   pairs-append (r ∷ a) b = ap (λ l. p r ∷ q r ∷ l) (pairs-append a b)
 
+  -- the pairs of a table of runs
   pairs-table : (f : ℕ → Run) (n : ℕ) → pairs p q (table f n) ≡ each n (λ i. p (f i) ∷ q (f i) ∷ [])
   pairs-table f zero = refl
   pairs-table f (suc n) = pairs-append (table f n) (f n ∷ []) ∙ ap (λ l. l ++ (p (f n) ∷ q (f n) ∷ [])) (pairs-table f n)
 
--- their x values, and their y values
+-- their x values
 pub xs-runs : (x1 y1 x2 y2 : List ℕ) (n : ℕ) → xs (runsHeld x1 y1 x2 y2 n) ≡ values x1 x2 n
 unfolding runsHeld values
 xs-runs x1 y1 x2 y2 n = xs-are (runsHeld x1 y1 x2 y2 n) ∙ pairs-table _ _ (runHeld x1 y1 x2 y2) n
 
+-- and their y values
 pub ys-runs : (x1 y1 x2 y2 : List ℕ) (n : ℕ) → ys (runsHeld x1 y1 x2 y2 n) ≡ values y1 y2 n
 unfolding runsHeld values
 ys-runs x1 y1 x2 y2 n = ys-are (runsHeld x1 y1 x2 y2 n) ∙ pairs-table _ _ (runHeld x1 y1 x2 y2) n
 
--- the lines of the two axes are the columns and the rows of the Hanan grid
+-- the lines of an axis are the columns of the Hanan grid
 pub columns-are : (x1 y1 x2 y2 : List ℕ) (n : ℕ) → hanan (runsHeld x1 y1 x2 y2 n) .columns ≡ distinct (values x1 x2 n)
 columns-are x1 y1 x2 y2 n = ap distinct (xs-runs x1 y1 x2 y2 n)
 
+-- and on the other axis
 pub rows-are : (x1 y1 x2 y2 : List ℕ) (n : ℕ) → hanan (runsHeld x1 y1 x2 y2 n) .rows ≡ distinct (values y1 y2 n)
 rows-are x1 y1 x2 y2 n = ap distinct (ys-runs x1 y1 x2 y2 n)
 
@@ -74,6 +80,7 @@ rows-are x1 y1 x2 y2 n = ap distinct (ys-runs x1 y1 x2 y2 n)
 pub axis-columns : (x1 y1 x2 y2 : List ℕ) (n : ℕ) (a : Axis) → a ≡ axisOf (distinct (values x1 x2 n)) → a ≡ axisOf (hanan (runsHeld x1 y1 x2 y2 n) .columns)
 axis-columns x1 y1 x2 y2 n a e = e ∙ ap axisOf (sym (columns-are x1 y1 x2 y2 n))
 
+-- and on the other axis
 pub axis-rows : (x1 y1 x2 y2 : List ℕ) (n : ℕ) (a : Axis) → a ≡ axisOf (distinct (values y1 y2 n)) → a ≡ axisOf (hanan (runsHeld x1 y1 x2 y2 n) .rows)
 axis-rows x1 y1 x2 y2 n a e = e ∙ ap axisOf (sym (rows-are x1 y1 x2 y2 n))
 

@@ -37,6 +37,7 @@ placed v a l true t = v ∷ a ∷ l
 placed v a l false true = a ∷ insert v l
 placed v a l false false = a ∷ l
 
+-- insertion makes that
 insert-step : (v a : ℕ) (l : List ℕ) → insert v (a ∷ l) ≡ placed v a l (ltb v a) (ltb a v)
 unfolding insert
 insert-step v a l = go (ltb v a) (ltb a v)

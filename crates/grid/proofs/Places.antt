@@ -153,11 +153,12 @@ length-positive l r i h = omega (arith, r i h)
 pub length-at-most : (l : List ℕ) (i m : ℕ) → getD l (suc i) 0 ≤ m → lengthAt l i ≤ m
 length-at-most l i m h = omega arith
 
--- the lengths of the grid's edges by the columns, and by the rows
+-- the lengths of the grid's edges along the rows
 pub across-length : (g : Grid) (i j : ℕ) → len (acrossAt g i j) ≡ lengthAt (g .columns) i
 unfolding len
 across-length g i j = refl
 
+-- and of those along the columns
 pub upward-length : (g : Grid) (i j : ℕ) → len (upwardAt g i j) ≡ lengthAt (g .rows) j
 unfolding len
 upward-length g i j = refl

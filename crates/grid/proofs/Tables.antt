@@ -9,6 +9,7 @@ use native.Mathlib.Omega.{arith}
 use lib.ListN.{length, getD, set, replicate, length-append, length-replicate, List·getD-append}
 use lib.Seq.{set-at, append-snoc, getD-append-add, ext-getD}
 use Rattle.network.specs.Entries.{length-table, getD-table}
+use Rattle.network.proofs.Lists.{getD-nothing}
 use Rattle.network.proofs.Numbers.{order}
 use Rattle.grid.specs.Tables.{table, padded}
 
@@ -31,12 +32,7 @@ getD-padded k l i h = List·getD-append l (replicate (k - length l) 0) 0 i h
 pub getD-behind : (k : ℕ) (l : List ℕ) (i : ℕ) → length l ≤ i → getD (padded k l) i 0 ≡ 0
 getD-behind k l i h =
     let e : length l + (i - length l) ≡ i = omega arith in
-    ap (λ (j : ℕ). getD (padded k l) j 0) (sym e) ∙ getD-append-add l (replicate (k - length l) 0) (i - length l) 0 ∙ zeros (k - length l) (i - length l)
-  where
-    zeros : (n j : ℕ) → getD {A = ℕ} (replicate n 0) j 0 ≡ 0
-    zeros zero j = refl
-    zeros (suc n) zero = refl
-    zeros (suc n) (suc j) = zeros n j
+    ap (λ (j : ℕ). getD (padded k l) j 0) (sym e) ∙ getD-append-add l (replicate (k - length l) 0) (i - length l) 0 ∙ getD-nothing 0 (k - length l) (i - length l)
 
 -- an array that has a table's entries, and zeros behind them, holds the table
 pub table-held : (f : ℕ → ℕ) (k n : ℕ) (t : List ℕ) → n ≤ k → length t ≡ k → ((i : ℕ) → i < n → getD t i 0 ≡ f i) → ((i : ℕ) → n ≤ i → getD t i 0 ≡ 0)

@@ -69,6 +69,7 @@ top-has : (n r : ℕ) → r < 2 ^ n → has (2 ^ n + r) n ≡ true
 top-has n r h =
     ap (λ (m : ℕ). eqb ((m + r) / 2 ^ n % 2) 1) (sym (one-mul (2 ^ n))) ∙ ap (λ (q : ℕ). eqb (q % 2) 1) (high 1 n h)
 
+-- a digit below the top one
 under-has : (n r j : ℕ) → r < 2 ^ n → j < n → has (2 ^ n + r) j ≡ has r j
 under-has n r j h l =
     sym (low-has (2 ^ n + r) n j l)
@@ -80,25 +81,28 @@ half-has s j = ap (λ (q : ℕ). eqb (q % 2) 1) (shr-shr s 1 j ∙ ap (λ (m : �
 
 -- ---- `|`, `&` and `1 << i`
 
+-- the greater of two digits is 1 where one of them is
 or-one : (a b : Bool) → eqb (max (cond a 1 0) (cond b 1 0)) 1 ≡ (a || b)
 or-one true true = refl
 or-one true false = refl
 or-one false true = refl
 or-one false false = refl
 
+-- and the lesser where both are
 and-one : (a b : Bool) → eqb (min (cond a 1 0) (cond b 1 0)) 1 ≡ (a && b)
 and-one true true = refl
 and-one true false = refl
 and-one false true = refl
 and-one false false = refl
 
--- the lowest digit of a union, and of an intersection
+-- the lowest digit of a union
 or-low : (a b : ℕ) → bitOr a b % 2 ≡ max (a % 2) (b % 2)
 or-low a b =
     let ha = mod-lt a (zero-lt-suc 1) in
     let hb = mod-lt b (zero-lt-suc 1) in
     ap (λ (x : ℕ). x % 2) (or-step a b) ∙ digits-mod (bitOr (a / 2) (b / 2)) (omega arith)
 
+-- of an intersection
 and-low : (a b : ℕ) → bitAnd a b % 2 ≡ min (a % 2) (b % 2)
 and-low a b =
     let ha = mod-lt a (zero-lt-suc 1) in
@@ -184,6 +188,7 @@ cond-top : (b : Bool) (n r : ℕ) → r < 2 ^ n → has (cond b (2 ^ n) 0 + r) n
 cond-top true n r h = top-has n r h
 cond-top false n r h = ap (λ (m : ℕ). has m n) (zero-add r) ∙ high-has r n n h (le-refl n)
 
+-- a digit under it
 cond-under : (b : Bool) (n r j : ℕ) → r < 2 ^ n → j < n → has (cond b (2 ^ n) 0 + r) j ≡ has r j
 cond-under true n r j h l = under-has n r j h l
 cond-under false n r j h l = ap (λ (m : ℕ). has m j) (zero-add r)

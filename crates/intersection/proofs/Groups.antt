@@ -104,9 +104,11 @@ no-centre joined group c p = sym (ap (λ (b : Bool). b && every (leafOf joined g
 -- ---- the set of the centres, and the lowest
 
 module _ (joined : ℕ → ℕ → Bool) (group found : ℕ) (e : found ≡ pack (centreIn joined group) 32) where
+  -- it fits 32 digits
   found-lt : found < 2 ^ 32
   found-lt = rw e (pack-lt (centreIn joined group) 32)
 
+  -- its members are the centres
   centres-are : members found ≡ centres joined (members group)
   unfolding centres members
   centres-are =

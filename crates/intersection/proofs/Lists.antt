@@ -8,31 +8,10 @@ use native.Mathlib.Nat.{eq-or-lt-of-le, le-of-suc-le-suc, not-suc-le-zero}
 use native.Mathlib.Omega.{arith}
 use Rattle.network.specs.Lists.{every, select}
 use Rattle.network.specs.Graph.{below}
+use Rattle.network.proofs.Lists.{kept, select-cons, select-append}
 use Rattle.network.proofs.Leaves.{below-member}
 
 -- ---- chosen elements
-
--- an element that is kept or left out
-abbrev pub kept : {A : Type 0} → Bool → A → List A → List A
-kept true a l = a ∷ l
-kept false a l = l
-
--- one element more, which is kept or left out
-pub select-cons : {A : Type 0} (t : A → Bool) (a : A) (l : List A) → select t (a ∷ l) ≡ kept (t a) a (select t l)
-select-cons {A} t a l = go (t a)
-  where
-    go : (b : Bool) → elim b as (λ u. List A) [ true ↦ a ∷ select t l | false ↦ select t l ] ≡ kept b a (select t l)
-    go true = refl
-    go false = refl
-
--- a choice of two lists
-pub select-append : {A : Type 0} (t : A → Bool) (l k : List A) → select t (l ++ k) ≡ select t l ++ select t k
-select-append t [] k = refl
-select-append {A} t (a ∷ l) k = select-cons t a (l ++ k) ∙ go (t a) (select-append t l k) ∙ sym (ap (λ (m : List A). m ++ select t k) (select-cons t a l))
-  where
-    go : (b : Bool) → select t (l ++ k) ≡ select t l ++ select t k → kept b a (select t (l ++ k)) ≡ kept b a (select t l) ++ select t k
-    go true e = ap (λ (m : List A). a ∷ m) e
-    go false e = e
 
 -- a choice of a choice
 pub select-select : {A : Type 0} (f t : A → Bool) (l : List A) → select f (select t l) ≡ select (λ a. t a && f a) l
@@ -49,11 +28,12 @@ select-cong f g [] h = refl
 select-cong {A} f g (a ∷ l) h =
     select-cons f a l ∙ ap₂ (λ (b : Bool) (k : List A). kept b a k) (h a (here refl)) (select-cong f g l (λ b m. h b (there m))) ∙ sym (select-cons g a l)
 
--- where none passes none is chosen, and where all pass all are
+-- where none passes none is chosen
 pub select-none : {A : Type 0} (f : A → Bool) (l : List A) → ((a : A) → Member a l → f a ≡ false) → select f l ≡ []
 select-none f [] h = refl
 select-none {A} f (a ∷ l) h = select-cons f a l ∙ ap₂ (λ (b : Bool) (k : List A). kept b a k) (h a (here refl)) (select-none f l (λ b m. h b (there m)))
 
+-- and where all pass all are
 pub select-all : {A : Type 0} (f : A → Bool) (l : List A) → ((a : A) → Member a l → f a ≡ true) → select f l ≡ l
 select-all f [] h = refl
 select-all {A} f (a ∷ l) h = select-cons f a l ∙ ap₂ (λ (b : Bool) (k : List A). kept b a k) (h a (here refl)) (select-all f l (λ b m. h b (there m)))

@@ -68,10 +68,12 @@ module _ (joined : ℕ → ℕ → Bool) (i : ℕ) (few : i < 32) where
   unfolding partSets part
   part-length j = length-padded 32 (table (part j) (suc i)) (omega (arith, length-table (part j) (suc i)))
 
+  -- an entry up to run i
   part-at : (j k : ℕ) → k < suc i → getD (partSets joined i j) k 0 ≡ pack (joined k) (seen i j k)
   unfolding partSets part
   part-at j k h = getD-padded 32 (table (part j) (suc i)) k (omega (arith, length-table (part j) (suc i))) ∙ getD-table (part j) (suc i) k 0 h
 
+  -- and the entries behind it
   part-behind : (j k : ℕ) → suc i ≤ k → getD (partSets joined i j) k 0 ≡ 0
   unfolding partSets part
   part-behind j k h = getD-behind 32 (table (part j) (suc i)) k (omega (arith, length-table (part j) (suc i)))
@@ -180,6 +182,7 @@ module _ (left right low high : List ℕ) (i j : ℕ) (sets : List ℕ) (c : Com
   joined : ℕ → ℕ → Bool
   joined = boxesMeet left right low high
 
+  -- the runs meet exactly if the answer is yes
   outcome : (joined i j ≡ t) × (joined j i ≡ t)
   unfolding joined
   outcome =
@@ -212,9 +215,11 @@ module _ (x1 y1 x2 y2 : List ℕ) (n : ℕ) (few : n ≤ 32) where
   abbrev pub boxes : ℕ → ℕ → Bool
   boxes = boxesMeet (sidesOf x1 x2 .lower) (sidesOf x1 x2 .higher) (sidesOf y1 y2 .lower) (sidesOf y1 y2 .higher)
 
+  -- a side of a box, read from its array
   side : (f : ℕ → ℕ) (i : ℕ) → i < n → getD (table f 32) i 0 ≡ f i
   side f i h = getD-table f 32 i 0 (omega arith)
 
+  -- the runs overlap exactly if their boxes do
   overlap-says : (i j : ℕ) → i < n → j < n → overlap (hanan (runsHeld x1 y1 x2 y2 n)) (runAt (runsHeld x1 y1 x2 y2 n) i) (runAt (runsHeld x1 y1 x2 y2 n) j)
       ≡ overlapping (runHeld x1 y1 x2 y2 i) (runHeld x1 y1 x2 y2 j)
   overlap-says i j h k =

@@ -125,6 +125,7 @@ implied : (a b : Bool) → a && b ≡ a → not a || b ≡ true
 implied true b e = e
 implied false b e = refl
 
+-- a test that implies another adds nothing to it
 implies : (a b : Bool) → not a || b ≡ true → a && b ≡ a
 implies true b e = e
 implies false b e = refl

@@ -69,6 +69,7 @@ module _ (a e : Points) (c : ℕ) (moves : List Move) (k : ℕ) (r : Route) (S :
   columns-are : columnsOf r ≡ laneTo (e .x .first) (e .x .second)
   columns-are = λ i. lane (l .rightward i) (l .column i) ((ap (steps hor) (l .goes) ∙ leads-apart a e c moves k S hor) i)
 
+  -- in both directions
   rows-are : rowsOf r ≡ laneTo (e .y .first) (e .y .second)
   rows-are = λ i. lane (l .upward i) (l .row i) ((ap (steps ver) (l .goes) ∙ leads-apart a e c moves k S ver) i)
 

@@ -17,6 +17,7 @@ use Rattle.sharing.specs.Trace.{Move}
 use Rattle.sharing.specs.Walk.{dirs, moved}
 use Rattle.sharing.specs.Leaf.{isWith, before, stretch}
 use Rattle.sharing.proofs.Leaf.{moved-append}
+use Rattle.network.proofs.Lists.{select-append}
 use Rattle.network.proofs.StepCounts.{steps-all}
 use Rattle.layout.specs.declared.Stretch.{Stretch}
 use Rattle.table.specs.Walk.{dirBy, shareIf, moveBy, moveAt}
@@ -56,16 +57,10 @@ abbrev mine : ℕ → Move → Bool
 mine k x = isWith k (x .share)
 
 module _ (k : ℕ) where
+  -- the stretch of two lists
   stretch-append : (p q : List Move) → stretch k (p ++ q) ≡ stretch k p ++ stretch k q
   unfolding stretch
-  stretch-append [] q = refl
-  stretch-append (x ∷ p) q = go (mine k x) (stretch-append p q)
-    where
-      go : (b : Bool) → select (mine k) (p ++ q) ≡ select (mine k) p ++ select (mine k) q
-          → elim b as (λ u. List Move) [ true ↦ x ∷ select (mine k) (p ++ q) | false ↦ select (mine k) (p ++ q) ]
-          ≡ elim b as (λ u. List Move) [ true ↦ x ∷ select (mine k) p | false ↦ select (mine k) p ] ++ select (mine k) q
-      go true e = ap (λ l. x ∷ l) e
-      go false e = e
+  stretch-append p q = select-append (mine k) p q
 
   -- the stretch of one move
   stretch-one : (x : Move) (b : Bool) → mine k x ≡ b → stretch k (x ∷ []) ≡ cond b (x ∷ []) []

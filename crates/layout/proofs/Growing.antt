@@ -53,11 +53,12 @@ longer-more r n l s i m t p q =
 
 -- ---- a leg
 
--- how many steps it has, and the step at index i
+-- how many steps it has
 pub leg-length : (across up : ℕ) → length (legOf across up) ≡ across + up
 leg-length across up =
     length-append (replicate across hor) (replicate up ver) ∙ omega (arith, length-replicate across hor, length-replicate up ver)
 
+-- and the step at index i
 leg-at : (across up i : ℕ) → i < across + up → getD (legOf across up) i hor ≡ cond (ltb i across) hor ver
 leg-at zero up i h = rw (le-ltb i 0 (omega arith)) (getD-replicate up i ver hor (omega arith))
 leg-at (suc across) up zero h = rw (lt-ltb 0 (suc across) (omega arith))

@@ -3,7 +3,7 @@ use mathlib.Core.Path.{_≡_, refl, ap, _∙_}
 use mathlib.Core.List.{List, [], _∷_, map}
 use Prim.Native.Nat.{ℕ, zero, suc, _+_, _≤_, _<_}
 use native.Mathlib.Omega.{arith}
-use lib.ListN.{length, getD, set, take, drop, replicate}
+use lib.ListN.{length, getD, set, take, drop}
 use lib.Seq.{getD-set-other}
 use Rattle.network.specs.Lists.{All}
 
@@ -33,12 +33,6 @@ mapped-at f (suc n) (x ∷ l) zero d e h i = refl
 mapped-at f (suc n) (x ∷ l) (suc k) d e h i = mapped-at f n l k d e (omega arith) (omega arith)
 
 module _ {A : Type 0} (d : A) where
-  -- a table of nothing
-  pub getD-nothing : (n j : ℕ) → getD (replicate n d) j d ≡ d
-  getD-nothing zero j = refl
-  getD-nothing (suc n) zero = refl
-  getD-nothing (suc n) (suc j) = getD-nothing n j
-
   module _ (t : List A) (k : ℕ) (v : A) (h : k < length t) where
     -- what is behind an entry that is stored
     pub set-rest : ((j : ℕ) → k ≤ j → getD t j d ≡ d) → (j : ℕ) → k + 1 ≤ j → getD (set t k v) j d ≡ d

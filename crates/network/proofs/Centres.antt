@@ -63,6 +63,7 @@ select-least t (a ∷ l) r c rest e d h m = go (t a) refl e (List·Memᴰ·cases
     go false p k (inl i) tail = ap t i ∙ p
     go false p k (inr o) tail = tail k o
 
+-- and the least that passes is the first
 least-select : (t : ℕ → Bool) (l : List ℕ) → Rising l → (c : ℕ) → Member c l → t c ≡ true → ((d : ℕ) → d < c → Member d l → t d ≡ false)
     → (rest : List ℕ) × (select t l ≡ c ∷ rest)
 least-select t [] r c m h n = absurd (List·Memᴰ·not-nil m)
@@ -96,10 +97,12 @@ module _ (joined : ℕ → ℕ → Bool) (group : List ℕ) (rises : Rising grou
 
 -- the list of the centres is empty exactly if the group is no star
 module _ (joined : ℕ → ℕ → Bool) (group : List ℕ) where
+  -- where there is no first, no vertex is a centre
   pub centres-none : centres joined group ≡ [] → (c : ℕ) → IsCentre joined group c → ⊥
   unfolding centres
   centres-none e c k = List·Memᴰ·not-nil (subst (Member c) e (member-selected (isCentre joined group) group (k .member) (true-centre joined group c k)))
 
+  -- and where no vertex is, there is none
   pub none-centres : ((c : ℕ) → IsCentre joined group c → ⊥) → centres joined group ≡ []
   unfolding centres
   none-centres n = go (select (isCentre joined group) group) refl

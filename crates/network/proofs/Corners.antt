@@ -30,11 +30,13 @@ point-true p q h =
     let k = and-split (eqb (p .x) (q .x)) (eqb (p .y) (q .y)) h in
     λ i. record { x = eqb-true (p .x) (q .x) (k .0) i; y = eqb-true (p .y) (q .y) (k .1) i }
 
-true-point : (p q : Point) → p ≡ q → samePoint p q ≡ true
+-- and of the same point it holds
+pub true-point : (p q : Point) → p ≡ q → samePoint p q ≡ true
 unfolding samePoint
 true-point p q e =
     and-join (eqb (p .x) (q .x)) (eqb (p .y) (q .y)) (eq-eqb (p .x) (q .x) (ap (λ (o : Point). o .x) e)) (eq-eqb (p .y) (q .y) (ap (λ (o : Point). o .y) e))
 
+-- the test for three points on one line, as a fact
 pub line-true : (p q r : Point) → straightOn p q r ≡ true → On-line p q r
 unfolding straightOn
 line-true p q r h =
@@ -45,6 +47,7 @@ line-true p q r h =
     record { here = eqb-true (p .y) (q .y) (k .0); there = eqb-true (q .y) (r .y) (k .1) })
     (or-split (eqb (p .x) (q .x) && eqb (q .x) (r .x)) (eqb (p .y) (q .y) && eqb (q .y) (r .y)) h)
 
+-- and back
 pub true-line : (p q r : Point) → On-line p q r → straightOn p q r ≡ true
 unfolding straightOn
 true-line p q r h =
@@ -58,9 +61,11 @@ true-line p q r h =
 pub corner-end : (p q : Point) → samePoint p q ≡ false → cornersFrom p q [] ≡ q ∷ []
 corner-end p q e = ap (λ t. elim t as (λ u. List Point) [ true ↦ [] | false ↦ q ∷ [] ]) e
 
+-- where the route goes straight on
 pub corner-on : (p q r : Point) (l : List Point) → straightOn p q r ≡ true → cornersFrom p q (r ∷ l) ≡ cornersFrom p r l
 corner-on p q r l e = ap (λ t. elim t as (λ u. List Point) [ true ↦ cornersFrom p r l | false ↦ q ∷ cornersFrom q r l ]) e
 
+-- where it turns
 pub corner-at : (p q r : Point) (l : List Point) → straightOn p q r ≡ false → cornersFrom p q (r ∷ l) ≡ q ∷ cornersFrom q r l
 corner-at p q r l e = ap (λ t. elim t as (λ u. List Point) [ true ↦ cornersFrom p r l | false ↦ q ∷ cornersFrom q r l ]) e
 
@@ -98,6 +103,7 @@ left-out : (g : Grid) (p q r : Point) (l k : List Point) (z : Point) → On-line
     → Kept g p (q ∷ r ∷ l) k z
 left-out g p q r l k z s w h = record { walk = h .walk; same = λ e o. h .same e o ∙ skip-same g p q r l z s w e o }
 
+-- it stays, and what is kept after it is kept
 stays : (g : Grid) (p q r : Point) (l k : List Point) (z : Point) → Walk g p (q ∷ r ∷ l) z → Kept g q (r ∷ l) k z → Kept g p (q ∷ r ∷ l) (q ∷ k) z
 stays g p q r l k z w h =
     record {
@@ -144,6 +150,7 @@ corners-manhattan g run (p ∷ q ∷ l) m =
     subst (λ o. Manhattan g (o to run .second) (corners (p ∷ q ∷ l))) (m .starts)
     (manhattan-of g p (cornersFrom p q l) (run .second) (k .walk .vertices) (k .walk .straight) (k .walk .goes))
 
+-- and it is on the same edges
 pub corners-on : (g : Grid) (run : Run) (route : Route) → Manhattan g run route → (e : Edge) → OfGrid g e → on e (corners route) ≡ on e route
 corners-on g run [] m e o = refl
 corners-on g run (p ∷ []) m e o = refl
@@ -160,6 +167,7 @@ still : {a b : ℕ} → Between a b a → b ≡ a
 still (rise h k) = omega arith
 still (fall h k) = omega arith
 
+-- a walk that comes back to its first point has no corner after it
 no-corners : (p q : Point) (l : List Point) → p ≡ q → Monotone q l p → cornersFrom p q l ≡ []
 no-corners p q [] e m = ap (λ t. elim t as (λ u. List Point) [ true ↦ [] | false ↦ q ∷ [] ]) (true-point p q e)
 no-corners p q (r ∷ l) e m =
@@ -167,6 +175,7 @@ no-corners p q (r ∷ l) e m =
     let d : r ≡ p = λ i. record { x = still (t .in-x) i; y = still (t .in-y) i } in
     corner-on p q r l (true-line p q r (inl (record { here = ap (λ (o : Point). o .x) e; there = ap (λ (o : Point). o .x) (sym e ∙ sym d) }))) ∙ no-corners p r l (sym d) (m .1)
 
+-- so it has that corner alone
 pub corners-point : (g : Grid) (p : Point) (route : Route) → Manhattan g (p to p) route → corners route ≡ p ∷ []
 corners-point g p [] m = absurd (m .starts)
 corners-point g p (o ∷ []) m = ap (λ (q : Point). q ∷ []) (m .starts)
@@ -196,6 +205,7 @@ corners-excess : (g : Grid) (runs : List Run) (routes : List Route) → Routes g
 unfolding excess
 corners-excess g runs routes m = edges-cong g _ _ (λ e o. ap (λ n. len e * pred n) (corners-count g runs routes m e o))
 
+-- the length of their union
 pub corners-union : (g : Grid) (runs : List Run) (routes : List Route) → Routes g runs routes
     → unionLength g (map corners routes) ≡ unionLength g routes
 corners-union g runs routes m =

@@ -38,6 +38,7 @@ abbrev pub gapIn : Dir → Run → ℕ
 gapIn hor r = gap (r .first .x) (r .second .x)
 gapIn ver r = gap (r .first .y) (r .second .y)
 
+-- a point is not apart from itself
 gapIn-self : (d : Dir) (p : Point) → gapIn d (p to p) ≡ 0
 gapIn-self hor p = gap-self (p .x)
 gapIn-self ver p = gap-self (p .y)
@@ -97,6 +98,7 @@ module _ (g : Grid) (X Y : Lane) (fx : Fits (g .columns) X) (fy : Fits (g .rows)
       true-lies (stepEdge g X Y ver i j) (spot g X Y i j to spot g X Y i (suc j))
       (record { first-at = refl; second-at = refl }, lane-step (g .rows) (g .rows-rise) Y fy j k)
 
+  -- and it is the only one
   step-only : (d : Dir) (i j : ℕ) → nextColumn d i ≤ extent X → nextRow d j ≤ extent Y → (e : Edge) → OfGrid g e
       → lies e (spot g X Y i j to spot g X Y (nextColumn d i) (nextRow d j)) ≡ true → e ≡ stepEdge g X Y d i j
   step-only hor i j h k e (across-of a b m n) t =

@@ -22,6 +22,7 @@ abbrev pub Proper : Edge → Type 0
 Proper (across x x′ y) = x < x′
 Proper (upward x y y′) = y < y′
 
+-- every edge of a grid has
 pub proper : (g : Grid) (e : Edge) → OfGrid g e → Proper e
 proper g e (across-of i j h k) = g .columns-rise i h
 proper g e (upward-of i j h k) = g .rows-rise j k
@@ -32,6 +33,7 @@ proper g e (upward-of i j h k) = g .rows-rise j k
 abbrev Rowwise : (n m : ℕ) → (ℕ → ℕ → Edge) → Edge → Type 0
 Rowwise n m f e = (i : ℕ) × (i < n) × ((j : ℕ) × (j < m) × (e ≡ f i j))
 
+-- an element of the rows has such an i and j
 rowwise : (n m : ℕ) (f : ℕ → ℕ → Edge) {e : Edge} → Member e (each n (λ i. each m (λ j. f i j ∷ []))) → Rowwise n m f e
 rowwise n m f k =
     let (i, h, o) = each-member n (λ i. each m (λ j. f i j ∷ [])) k in
@@ -90,6 +92,7 @@ edges-cong g v w h = sum-cong v w (edges g) (λ e m. h e (edge-of g m))
 pub edges-any : (g : Grid) (t : Edge → Bool) → any t (edges g) ≡ true → (e : Edge) × OfGrid g e × (t e ≡ true)
 edges-any g t h = let (e, m, k) = any-true t (edges g) h in (e, edge-of g m, k)
 
+-- where one does the test finds it
 pub any-edges : (g : Grid) (t : Edge → Bool) (e : Edge) → OfGrid g e → t e ≡ true → any t (edges g) ≡ true
 any-edges g t e o h = true-any t (of-edge g o) h
 

@@ -36,6 +36,7 @@ insert-member {u} v (a ∷ l) m = go (ltb v a) (ltb a v) m (insert-member v l)
     go false true k rest = ⊎-elim (λ e. inr (here e)) (λ o. ⊎-map (λ e. e) there (rest o)) (List·Memᴰ·cases-cons k)
     go false false k rest = inr k
 
+-- and all of them
 member-insert : {u : ℕ} (v : ℕ) (l : List ℕ) → (u ≡ v) ⊎ Member u l → Member u (insert v l)
 unfolding insert
 member-insert v [] m = ⊎-elim here (λ o. absurd (List·Memᴰ·not-nil o)) m
@@ -59,6 +60,7 @@ unfolding distinct
 distinct-member [] m = m
 distinct-member (v ∷ l) m = ⊎-elim here (λ o. there (distinct-member l o)) (insert-member v (distinct l) m)
 
+-- and all of them
 member-distinct : {u : ℕ} (l : List ℕ) → Member u l → Member u (distinct l)
 unfolding distinct
 member-distinct [] m = m
@@ -68,6 +70,7 @@ member-distinct (v ∷ l) m = member-insert v (distinct l) (⊎-map (λ e. e) (m
 pub distinct-listed : (l : List ℕ) (v : ℕ) → Listed (distinct l) v → Listed l v
 distinct-listed l v (i, h, e) = member-index 0 (distinct-member l (Memᴰ·cast (sym e) (index-member 0 (distinct l) i h)))
 
+-- and all of them
 pub listed-distinct : (l : List ℕ) (v : ℕ) → Listed l v → Listed (distinct l) v
 listed-distinct l v (i, h, e) = member-index 0 (member-distinct l (Memᴰ·cast (sym e) (index-member 0 l i h)))
 
@@ -93,6 +96,7 @@ rising-unique (a ∷ l) (b ∷ k) r s f h =
     behind c t o e (inl q) = absurd (omega arith)
     behind c t o e (inr m) = m
 
+-- so two rising lists with the same numbers are the same
 pub only-rising : (l k : List ℕ) → Rising l → Rising k → ((v : ℕ) → Listed l v → Listed k v) → ((v : ℕ) → Listed k v → Listed l v) → l ≡ k
 only-rising l k r s f h = rising-unique l k r s (λ v m. back k v (f v (member-index 0 m))) (λ v m. back l v (h v (member-index 0 m)))
   where
@@ -106,6 +110,7 @@ x-member : {r : Run} {runs : List Run} → Member r runs → Member (r .first .x
 x-member (here e) = (here (ap (λ (s : Run). s .first .x) e), there (here (ap (λ (s : Run). s .second .x) e)))
 x-member (there m) = (there (there (x-member m .0)), there (there (x-member m .1)))
 
+-- the y of both points
 y-member : {r : Run} {runs : List Run} → Member r runs → Member (r .first .y) (ys runs) × Member (r .second .y) (ys runs)
 y-member (here e) = (here (ap (λ (s : Run). s .first .y) e), there (here (ap (λ (s : Run). s .second .y) e)))
 y-member (there m) = (there (there (y-member m .0)), there (there (y-member m .1)))
@@ -118,9 +123,11 @@ hanan-placed runs m =
       second-vertex = record { column = member-index 0 (member-distinct (xs runs) (x-member m .1)); row = member-index 0 (member-distinct (ys runs) (y-member m .1)) };
     }
 
+-- by its index
 pub hanan-placed-at : (runs : List Run) (i : ℕ) → i < length runs → Placed (hanan runs) (runAt runs i)
 hanan-placed-at runs i h = hanan-placed runs (index-member (origin to origin) runs i h)
 
+-- so all are
 pub hanan-all : (runs : List Run) → All (Placed (hanan runs)) runs
 hanan-all runs = go runs (λ r m. hanan-placed runs m)
   where
@@ -134,6 +141,7 @@ hanan-all runs = go runs (λ r m. hanan-placed runs m)
 pub placed-frame : (g : Grid) (r : Run) → Placed g r → (X : Lane) × (Y : Lane) × Frame g r X Y
 placed-frame g r p = frame-of g r (p .first-vertex) (p .second-vertex)
 
+-- so it has a Manhattan route
 pub placed-route : (g : Grid) (r : Run) → Placed g r → (route : Route) × Manhattan g r route
 placed-route g r p = (bent (r .first) (r .second), bent-manhattan g (r .first) (r .second) (p .first-vertex) (p .second-vertex))
 

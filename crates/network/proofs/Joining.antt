@@ -29,6 +29,7 @@ spans-join (rise a b) (inr h) = omega arith
 spans-join (fall a b) (inl h) = omega arith
 spans-join (fall a b) (inr h) = omega arith
 
+-- and the other way round
 spans-split : {p q r lo hi : ℕ} → Between p q r → (q ≤ lo) ⊎ (hi ≤ q) → Spans p r lo hi → (Spans p q lo hi) ⊎ (Spans q r lo hi)
 spans-split (rise a b) (inl k) h = inr (omega arith)
 spans-split (rise a b) (inr k) h = inl (omega arith)
@@ -46,6 +47,7 @@ lies-join g e p q r (upward-of i j h k) t (inl x) (inr m) = (omega arith, spans-
 lies-join g e p q r (upward-of i j h k) t (inr y) (inl m) = absurd (omega (arith, g .rows-rise j k))
 lies-join g e p q r (upward-of i j h k) t (inr y) (inr m) = absurd (omega (arith, g .rows-rise j k))
 
+-- and the other way round
 lies-split : (g : Grid) (e : Edge) (p q r : Point) → OfGrid g e → Vertex g q → Towards p q r → On-line p q r → Lies e (p to r) → (Lies e (p to q)) ⊎ (Lies e (q to r))
 lies-split g e p q r (across-of i j h k) v t (inl x) m = absurd (omega (arith, g .columns-rise i h))
 lies-split g e p q r (across-of i j h k) v t (inr y) m =
@@ -69,5 +71,6 @@ lies-at : (g : Grid) (e : Edge) (p : Point) → OfGrid g e → Lies e (p to p) �
 lies-at g e p (across-of i j h k) m = omega (arith, g .columns-rise i h)
 lies-at g e p (upward-of i j h k) m = omega (arith, g .rows-rise j k)
 
+-- as a test
 pub lies-nowhere : (g : Grid) (e : Edge) (p : Point) → OfGrid g e → lies e (p to p) ≡ false
 lies-nowhere g e p o = is-false (lies e (p to p)) (λ h. lies-at g e p o (lies-true e (p to p) h))

@@ -71,6 +71,7 @@ module _ (l : List ℕ) (r : Rising l) where
       let e : suc (a - suc i) ≡ a - i = omega arith in
       omega (arith, ap (λ k. getD l k 0) e)
 
+  -- no other stretch lies there
   pub lane-only : (X : Lane) → Fits l X → (i : ℕ) → i < extent X → (k : ℕ) → suc k < length l
       → Spans (getD l (at X i) 0) (getD l (at X (suc i)) 0) (getD l k 0) (getD l (suc k) 0) → k ≡ low X i
   lane-only (forth a n) f i h k m s =
@@ -81,6 +82,7 @@ module _ (l : List ℕ) (r : Rising l) where
       let p = rising-le l r (a - suc i) (a - i) (omega arith) (omega arith) in
       omega (arith, index-le l r (a - suc i) k (omega arith) (omega arith), index-le l r (suc k) (a - i) m (omega arith))
 
+  -- it is as long as its lines are apart
   pub lane-length : (X : Lane) → Fits l X → (i : ℕ) → i < extent X
       → getD l (suc (low X i)) 0 - getD l (low X i) 0 ≡ gap (getD l (at X i) 0) (getD l (at X (suc i)) 0)
   lane-length (forth a n) f i h =

@@ -6,7 +6,7 @@ use mathlib.Core.Bool.{Bool, true, false, _||_, true≢false, false≢true}
 use Prim.Native.Nat.{ℕ, zero, suc, _≤_, _<_}
 use native.Mathlib.Nat.{eq-or-lt-of-le}
 use native.Mathlib.Omega.{arith}
-use lib.ListN.{length, getD}
+use lib.ListN.{length, getD, replicate}
 use Rattle.network.specs.Lists.{any, every, select, each}
 use Rattle.network.proofs.Tests.{and-split, and-join, or-split, or-join}
 
@@ -19,6 +19,7 @@ any-true {A} t (a ∷ l) h = go (or-split (t a) (any t l) h) (any-true t l)
     go (inl k) rest = (a, here refl, k)
     go (inr k) rest = let (b, m, e) = rest k in (b, there m, e)
 
+-- and back
 pub true-any : {A : Type 0} (t : A → Bool) {a : A} {l : List A} → Member a l → t a ≡ true → any t l ≡ true
 true-any t (here {x} {xs} e) h = or-join (t x) (any t xs) (inl (ap t (sym e) ∙ h))
 true-any t (there {x} {xs} m) h = or-join (t x) (any t xs) (inr (true-any t m h))
@@ -37,6 +38,7 @@ each-member {A} {a} (suc n) f m = go (List·Memᴰ·append-cases (each n f) m) (
     go (inl k) rest = let (i, l, o) = rest k in (i, omega arith, o)
     go (inr k) rest = (n, omega arith, k)
 
+-- and back
 pub member-each : {A : Type 0} {a : A} (n : ℕ) (f : ℕ → List A) (i : ℕ) → i < n → Member a (f i) → Member a (each n f)
 member-each zero f i h m = absurd (omega arith)
 member-each {A} {a} (suc n) f i h m = go (eq-or-lt-of-le k) (member-each n f i)
@@ -53,6 +55,7 @@ pub every-true : {A : Type 0} (t : A → Bool) {a : A} {l : List A} → every t 
 every-true t h (here {x} {xs} e) = ap t e ∙ and-split (t x) (every t xs) h .0
 every-true t h (there {x} {xs} m) = every-true t (and-split (t x) (every t xs) h .1) m
 
+-- and back
 pub true-every : {A : Type 0} (t : A → Bool) (l : List A) → ((a : A) → Member a l → t a ≡ true) → every t l ≡ true
 true-every t [] h = refl
 true-every t (a ∷ l) h = and-join (t a) (every t l) (h a (here refl)) (true-every t l (λ b m. h b (there m)))
@@ -67,6 +70,7 @@ selected-member {A} {a} t (b ∷ l) m = go (t b) refl m (selected-member t l)
     go true e k rest = ⊎-elim (λ d. (here d, ap t d ∙ e)) (λ o. (there (rest o .0), rest o .1)) (List·Memᴰ·cases-cons k)
     go false e k rest = (there (rest k .0), rest k .1)
 
+-- and back
 pub member-selected : {A : Type 0} {a : A} (t : A → Bool) (l : List A) → Member a l → t a ≡ true → Member a (select t l)
 member-selected t [] m h = absurd (List·Memᴰ·not-nil m)
 member-selected {A} {a} t (b ∷ l) m h = go (t b) refl (List·Memᴰ·cases-cons m) (λ o. member-selected t l o h)
@@ -83,7 +87,38 @@ pub member-index : {A : Type 0} {a : A} {l : List A} (d : A) → Member a l → 
 member-index d (here e) = (0, omega arith, sym e)
 member-index d (there m) = let (i, h, e) = member-index d m in (suc i, omega arith, e)
 
+-- and back
 pub index-member : {A : Type 0} (d : A) (l : List A) (i : ℕ) → i < length l → Member (getD l i d) l
 index-member d [] i h = absurd (omega arith)
 index-member d (a ∷ l) zero h = here refl
 index-member d (a ∷ l) (suc i) h = there (index-member d l i (omega arith))
+
+-- a list that has one thing alone has it at each index
+pub getD-nothing : {A : Type 0} (d : A) (n j : ℕ) → getD (replicate n d) j d ≡ d
+getD-nothing d zero j = refl
+getD-nothing d (suc n) zero = refl
+getD-nothing d (suc n) (suc j) = getD-nothing d n j
+
+-- ---- chosen elements
+
+-- an element that is kept or left out
+abbrev pub kept : {A : Type 0} → Bool → A → List A → List A
+kept true a l = a ∷ l
+kept false a l = l
+
+-- one element more, which is kept or left out
+pub select-cons : {A : Type 0} (t : A → Bool) (a : A) (l : List A) → select t (a ∷ l) ≡ kept (t a) a (select t l)
+select-cons {A} t a l = go (t a)
+  where
+    go : (b : Bool) → elim b as (λ u. List A) [ true ↦ a ∷ select t l | false ↦ select t l ] ≡ kept b a (select t l)
+    go true = refl
+    go false = refl
+
+-- a choice of two lists
+pub select-append : {A : Type 0} (t : A → Bool) (l k : List A) → select t (l ++ k) ≡ select t l ++ select t k
+select-append t [] k = refl
+select-append {A} t (a ∷ l) k = select-cons t a (l ++ k) ∙ go (t a) (select-append t l k) ∙ sym (ap (λ (m : List A). m ++ select t k) (select-cons t a l))
+  where
+    go : (b : Bool) → select t (l ++ k) ≡ select t l ++ select t k → kept b a (select t (l ++ k)) ≡ kept b a (select t l) ++ select t k
+    go true e = ap (λ (m : List A). a ∷ m) e
+    go false e = e

@@ -41,15 +41,18 @@ between-further (rise h k) (fall m n) = fall (omega arith) (omega arith)
 between-further (fall h k) (rise m n) = rise (omega arith) (omega arith)
 between-further (fall h k) (fall m n) = fall (omega arith) k
 
+-- q is between b and z
 between-rest : {a b q z : ℕ} → Between a b q → Between a q z → Between b q z
 between-rest (rise h k) (rise m n) = rise k n
 between-rest (rise h k) (fall m n) = fall m (omega arith)
 between-rest (fall h k) (rise m n) = rise (omega arith) n
 between-rest (fall h k) (fall m n) = fall m h
 
+-- in the plane: b is on the way from a to z
 further : {a b q z : Point} → Towards a b q → Towards a q z → Towards a b z
 further t u = record { in-x = between-further (t .in-x) (u .in-x); in-y = between-further (t .in-y) (u .in-y) }
 
+-- and q on the way from b to z
 rest : {a b q z : Point} → Towards a b q → Towards a q z → Towards b q z
 rest t u = record { in-x = between-rest (t .in-x) (u .in-x); in-y = between-rest (t .in-y) (u .in-y) }
 
@@ -64,6 +67,7 @@ all-append P [] k f h = h
 all-append P (a ∷ l) k f h = (f .0, all-append P l k (f .1) h)
 
 module _ (b z : Point) (k : List Point) where
+  -- straight pieces followed by straight pieces are straight
   straight-append : (a : Point) (l : List Point) → lastFrom a l ≡ b → All Straight (piecesFrom a l) → All Straight (piecesFrom b k) → All Straight (piecesFrom a (l ++ k))
   straight-append a [] e f h = subst (λ q. All Straight (piecesFrom q k)) (sym e) h
   straight-append a (q ∷ l) e f h = (f .0, straight-append q l e (f .1) h)

@@ -33,6 +33,7 @@ overlap-edge g r s h =
     let (i, j) = and-split (inside e r) (inside e s) k in
     (e, o, i, j)
 
+-- and back
 pub edge-overlap : (g : Grid) (r s : Run) (e : Edge) → OfGrid g e → inside e r ≡ true → inside e s ≡ true → overlap g r s ≡ true
 unfolding overlap
 edge-overlap g r s e o h k = any-edges g (λ e. inside e r && inside e s) e o (and-join (inside e r) (inside e s) h k)
@@ -48,6 +49,7 @@ overlap-comm g r s = any-cong _ _ (edges g) (λ e m. and-comm (inside e r) (insi
 spans-both : {a b c d lo hi : ℕ} → Spans a b lo hi → Spans c d lo hi → (commonLow a b c d ≤ lo) × (hi ≤ commonHigh a b c d)
 spans-both s t = (max-le (s .low) (t .low), le-min (s .high) (t .high))
 
+-- and back
 both-spans : (a b c d : ℕ) {lo hi : ℕ} → commonLow a b c d ≤ lo → hi ≤ commonHigh a b c d → Spans a b lo hi × Spans c d lo hi
 both-spans a b c d h k = (
   record { low = le-trans (le-max-left (min a b) (min c d)) h; high = le-trans k (min-le-left (max a b) (max c d)) },
@@ -62,6 +64,7 @@ wide-true lx hx ly hy h =
     let (k, l) = and-split (leb lx hx) (leb ly hy) i in
     (leb-true lx hx k, leb-true ly hy l, ⊎-map (ltb-true lx hx) (ltb-true ly hy) (or-split (ltb lx hx) (ltb ly hy) j))
 
+-- and back
 true-wide : (lx hx ly hy : ℕ) → lx ≤ hx → ly ≤ hy → (lx < hx) ⊎ (ly < hy) → wide lx hx ly hy ≡ true
 unfolding wide
 true-wide lx hx ly hy h k l =
@@ -70,12 +73,15 @@ true-wide lx hx ly hy h k l =
 
 -- where two stretches between lines of the grid have one line in common, or a stretch between two neighbouring lines
 module _ (l : List ℕ) (a b c d : ℕ) (h : Listed l a) (i : Listed l b) (j : Listed l c) (k : Listed l d) where
+  -- what they have in common starts at a line
   low-listed : Listed l (commonLow a b c d)
   low-listed = listed-max l (min a b) (min c d) (listed-min l a b h i) (listed-min l c d j k)
 
+  -- and ends at one
   high-listed : Listed l (commonHigh a b c d)
   high-listed = listed-min l (max a b) (max c d) (listed-max l a b h i) (listed-max l c d j k)
 
+  -- so one line is in both
   common-line : commonLow a b c d ≤ commonHigh a b c d
       → (n : ℕ) × (n < length l) × Spans a b (getD l n 0) (getD l n 0) × Spans c d (getD l n 0) (getD l n 0)
   common-line o =
@@ -83,6 +89,7 @@ module _ (l : List ℕ) (a b c d : ℕ) (h : Listed l a) (i : Listed l b) (j : L
       let (s, t) = both-spans a b c d (le-of-eq (sym e)) (le-trans (le-of-eq e) o) in
       (n, p, s, t)
 
+  -- and where it is longer, a stretch between two neighbouring lines
   common-stretch : Rising l → commonLow a b c d < commonHigh a b c d
       → (n : ℕ) × (suc n < length l) × Spans a b (getD l n 0) (getD l (suc n) 0) × Spans c d (getD l n 0) (getD l (suc n) 0)
   common-stretch r o =
@@ -140,6 +147,7 @@ meets-true g runs i j h =
     let (k, o) = and-split (not (eqb i j)) (overlap g (runAt runs i) (runAt runs j)) h in
     (eqb-false i j (not-true (eqb i j) k), o)
 
+-- and back
 pub true-meets : (g : Grid) (runs : List Run) (i j : ℕ) → (i ≡ j → ⊥) → overlap g (runAt runs i) (runAt runs j) ≡ true → meets g runs i j ≡ true
 unfolding meets
 true-meets g runs i j n o = rw (ne-eqb i j n) o
@@ -160,6 +168,7 @@ point-inside : (g : Grid) (p : Point) (e : Edge) → OfGrid g e → inside e (p 
 point-inside g p e (across-of i j m n) h = omega (arith, inside-true (acrossAt g i j) (p to p) h, g .columns-rise i m)
 point-inside g p e (upward-of i j m n) h = omega (arith, inside-true (upwardAt g i j) (p to p) h, g .rows-rise j n)
 
+-- its box has no edge in it
 pub point-overlap : (g : Grid) (r s : Run) → r .first ≡ r .second → overlap g r s ≡ false
 point-overlap g r s e =
     is-false (overlap g r s) (λ h. let (f, o, i, j) = overlap-edge g r s h in

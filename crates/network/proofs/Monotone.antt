@@ -29,6 +29,7 @@ towards-here p z = record { in-x = between-here (p .x) (z .x); in-y = between-he
 pub towards-first : {p q r z : Point} → Towards p q z → Towards q r z → Towards p q r
 towards-first t u = record { in-x = between-first (t .in-x) (u .in-x); in-y = between-first (t .in-y) (u .in-y) }
 
+-- r is on the way from p to z
 pub towards-trans : {p q r z : Point} → Towards p q z → Towards q r z → Towards p r z
 towards-trans t u = record { in-x = between-trans (t .in-x) (u .in-x); in-y = between-trans (t .in-y) (u .in-y) }
 
@@ -37,10 +38,12 @@ pub distance-self : (p : Point) → distance (p to p) ≡ 0
 unfolding distance
 distance-self p = omega (arith, gap-self (p .x), gap-self (p .y))
 
+-- no way over q is shorter
 triangle : (p q z : Point) → distance (p to z) ≤ distance (p to q) + distance (q to z)
 unfolding distance
 triangle p q z = omega (arith, gap-triangle (p .x) (q .x) (z .x), gap-triangle (p .y) (q .y) (z .y))
 
+-- where it is no longer, q is on the way
 towards : (p q z : Point) → distance (p to q) + distance (q to z) ≤ distance (p to z) → Towards p q z
 unfolding distance
 towards p q z h =
@@ -49,6 +52,7 @@ towards p q z h =
       in-y = gap-between (p .y) (q .y) (z .y) (omega (arith, gap-triangle (p .x) (q .x) (z .x)));
     }
 
+-- and where q is on the way, it is as long
 towards-distance : (p q z : Point) → Towards p q z → distance (p to q) + distance (q to z) ≡ distance (p to z)
 unfolding distance
 towards-distance p q z t = omega (arith, between-gap (t .in-x), between-gap (t .in-y))
@@ -102,6 +106,7 @@ in-box-from : {o : Point} (p : Point) (l : List Point) (z : Point) → Towards o
 in-box-from p [] z t m = (t, tt)
 in-box-from p (q ∷ l) z t m = (t, in-box-from q l z (towards-trans t (m .0)) (m .1))
 
+-- all of them, with the first
 pub in-box : (p : Point) (l : List Point) (z : Point) → Monotone p l z → All (λ r. Towards p r z) (p ∷ l)
 in-box p l z m = in-box-from p l z (towards-here p z) m
 

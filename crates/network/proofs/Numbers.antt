@@ -27,6 +27,7 @@ pub between-up : {x v z : ℕ} → Between x v z → x ≤ z → (x ≤ v) × (v
 between-up (rise a b) h = omega arith
 between-up (fall a b) h = omega arith
 
+-- and the other way round
 pub between-down : {x v z : ℕ} → Between x v z → z ≤ x → (z ≤ v) × (v ≤ x)
 between-down (rise a b) h = omega arith
 between-down (fall a b) h = omega arith
@@ -39,6 +40,7 @@ between-here a c = go (order a c)
     go (inl h) = rise (omega arith) h
     go (inr h) = fall (omega arith) (omega arith)
 
+-- the far end
 pub between-there : {a b c : ℕ} → Between a b c → Between a c c
 between-there (rise u v) = rise (omega arith) (omega arith)
 between-there (fall u v) = fall (omega arith) (omega arith)
@@ -50,6 +52,7 @@ between-first (rise a b) (fall c d) = rise a (omega arith)
 between-first (fall a b) (rise c d) = fall (omega arith) b
 between-first (fall a b) (fall c d) = fall d b
 
+-- r is between p and z
 pub between-trans : {p q r z : ℕ} → Between p q z → Between q r z → Between p r z
 between-trans (rise a b) (rise c d) = rise (omega arith) (omega arith)
 between-trans (rise a b) (fall c d) = rise (omega arith) (omega arith)
@@ -63,6 +66,7 @@ record Gap (a b g : ℕ) : Type 0 where
   left : a ≤ b + g
   right : b ≤ a + g
 
+-- each number is at most the other and the gap
 gap-is : (a b : ℕ) → Gap a b (gap a b)
 unfolding gap
 gap-is a b = omega arith
@@ -72,6 +76,7 @@ pub gap-rise : (a b : ℕ) → a ≤ b → a + gap a b ≡ b
 unfolding gap
 gap-rise a b h = omega arith
 
+-- the other way round
 pub gap-fall : (a b : ℕ) → b ≤ a → b + gap a b ≡ a
 unfolding gap
 gap-fall a b h = omega arith
@@ -81,6 +86,7 @@ pub gap-self : (a : ℕ) → gap a a ≡ 0
 unfolding gap
 gap-self a = omega arith
 
+-- the gap the other way round
 pub gap-turned : (a b : ℕ) → gap a b ≡ gap b a
 unfolding gap
 gap-turned a b = omega arith
@@ -93,6 +99,7 @@ gap-triangle a b c = go (order a c)
     go (inl h) = omega (arith, gap-is a b, gap-is b c, gap-rise a c h)
     go (inr h) = omega (arith, gap-is a b, gap-is b c, gap-fall a c (omega arith))
 
+-- where the way over b is no longer, b is between
 pub gap-between : (a b c : ℕ) → gap a b + gap b c ≤ gap a c → Between a b c
 gap-between a b c e = go (order a c)
   where
@@ -102,6 +109,7 @@ gap-between a b c e = go (order a c)
         let k : c ≤ a = omega arith in
         fall (omega (arith, gap-is a b, gap-is b c, gap-fall a c k)) (omega (arith, gap-is a b, gap-is b c, gap-fall a c k))
 
+-- and where b is between, it is as long
 pub between-gap : {a b c : ℕ} → Between a b c → gap a b + gap b c ≡ gap a c
 between-gap {a} {b} {c} (rise h k) = omega (arith, gap-rise a b h, gap-rise b c k, gap-rise a c (omega arith))
 between-gap {a} {b} {c} (fall h k) = omega (arith, gap-fall a b k, gap-fall b c h, gap-fall a c (omega arith))

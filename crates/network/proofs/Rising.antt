@@ -23,6 +23,7 @@ module _ (l : List ℕ) (r : Rising l) where
           rw (← e) (r j k)
       go (inr m) ih = omega (arith, ih m (omega arith), r j k)
 
+  -- or the same, where the indexes are
   pub rising-le : (i j : ℕ) → i ≤ j → j < length l → getD l i 0 ≤ getD l j 0
   rising-le i j h k = go (order j i)
     where
@@ -64,6 +65,7 @@ rising-head a l r d m =
     let (i, h, e) = member-index 0 m in
     omega (arith, rising-lt (a ∷ l) r 0 (suc i) (omega arith) (omega arith))
 
+-- and the others rise
 pub rising-tail : (a : ℕ) (l : List ℕ) → Rising (a ∷ l) → Rising l
 rising-tail a l r i h = r (suc i) (omega arith)
 
@@ -75,6 +77,7 @@ listed-max l p q a b = go (order p q)
     go (inl h) = let e : max p q ≡ q = omega arith in rw e b
     go (inr h) = let e : max p q ≡ p = omega arith in rw e a
 
+-- the lesser of them
 pub listed-min : (l : List ℕ) (p q : ℕ) → Listed l p → Listed l q → Listed l (min p q)
 listed-min l p q a b = go (order p q)
   where

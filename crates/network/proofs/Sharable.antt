@@ -80,6 +80,7 @@ within-true p r h =
 way-up : {a z p q : ℕ} → a ≤ z → Spans a z p p → Spans a z q q → p ≤ q → Between a p q × Between a q z
 way-up o s t h = (rise (omega arith) h, rise (omega arith) (omega arith))
 
+-- on a way down
 way-down : {a z p q : ℕ} → z ≤ a → Spans a z p p → Spans a z q q → q ≤ p → Between a p q × Between a q z
 way-down o s t h = (fall h (omega arith), fall (omega arith) (omega arith))
 
@@ -87,6 +88,7 @@ way-down o s t h = (fall h (omega arith), fall (omega arith) (omega arith))
 abbrev Passes : Run → Point → Point → Type 0
 Passes l p q = Towards (l .first) p q × Towards (l .first) q (l .second)
 
+-- from the ways in x and in y
 passes : {l : Run} {p q : Point} → Between (l .first .x) (p .x) (q .x) × Between (l .first .x) (q .x) (l .second .x)
     → Between (l .first .y) (p .y) (q .y) × Between (l .first .y) (q .y) (l .second .y) → Passes l p q
 passes x y = (record { in-x = x .0; in-y = y .0 }, record { in-x = x .1; in-y = y .1 })
@@ -165,10 +167,12 @@ len-in hor (upward x y y′) k = let z : _≡_ {A = ℕ} 0 1 = cc in absurd (ome
 len-in ver (across x x′ y) k = let z : _≡_ {A = ℕ} 0 1 = cc in absurd (omega arith)
 len-in ver (upward x y y′) k = omega arith
 
+-- the distance in one direction is at most the greater one
 gapIn-max : (d : Dir) (v : Run) → gapIn d v ≤ max (gapIn hor v) (gapIn ver v)
 gapIn-max hor v = omega arith
 gapIn-max ver v = omega arith
 
+-- so what is shared is at most the greater one
 opposite-below : (g : Grid) (s : Slope) (l v : Run) → Sloped (opposite s) l → Sloped s v → (p q : Route) → Manhattan g l p → Manhattan g v q
     → shared g p q ≤ max (gapIn hor v) (gapIn ver v)
 opposite-below g s l v a b p q m n =

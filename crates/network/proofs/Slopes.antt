@@ -30,6 +30,7 @@ use Rattle.network.proofs.Along.{spans-wide, lies-inside, on-inside}
 data Parted (e f : Edge) (p z : Point) : Type 0 where
   parted : (m : Point) → Towards p m z → Inside e (p to m) → Inside f (m to z) → Parted e f p z
 
+-- a point on the way is on the way to itself
 towards-there : {p q z : Point} → Towards p q z → Towards p q q
 towards-there {q} t = towards-first t (towards-here q _)
 
@@ -102,6 +103,7 @@ tests {P} a b c d a′ b′ c′ d′ f f′ h = go (or-split (leb a b && leb c 
     go (inl k) = let (i, j) = and-split (leb a b) (leb c d) k in f (leb-true a b i) (leb-true c d j)
     go (inr k) = let (i, j) = and-split (leb a′ b′) (leb c′ d′) k in f′ (leb-true a′ b′ i) (leb-true c′ d′ j)
 
+-- a run that passes the test has the slope
 pub slopes-true : (s : Slope) (r : Run) → slopes s r ≡ true → Sloped s r
 unfolding slopes
 slopes-true regular r h =
@@ -132,6 +134,7 @@ straight-sloped s r (inr e) = go s (order (r .first .x) (r .second .x))
 passes-up : {a m z lo hi lo′ hi′ : ℕ} → a ≤ z → Between a m z → Spans a m lo hi → Spans m z lo′ hi′ → hi ≤ lo′
 passes-up o t h k = let b = between-up t o in omega arith
 
+-- on a way down
 passes-down : {a m z lo hi lo′ hi′ : ℕ} → z ≤ a → Between a m z → Spans a m lo hi → Spans m z lo′ hi′ → hi′ ≤ lo
 passes-down o t h k = let b = between-down t o in omega arith
 

@@ -50,6 +50,7 @@ unfolding steps
 steps-next hor i j s = omega arith
 steps-next ver i j s = omega arith
 
+-- a step leads to no lower index
 pub next-le : (d : Dir) (i j : ℕ) → (i ≤ nextColumn d i) × (j ≤ nextRow d j)
 next-le hor i j = omega arith
 next-le ver i j = omega arith
@@ -70,11 +71,13 @@ after-zero : (d : Dir) (i j : ℕ) → (columnAfter d 0 i ≡ i) × (rowAfter d 
 after-zero hor i j = omega arith
 after-zero ver i j = omega arith
 
+-- one step more
 after-suc : (d : Dir) (k i j : ℕ)
     → (columnAfter d (suc k) i ≡ columnAfter d k (nextColumn d i)) × (rowAfter d (suc k) j ≡ rowAfter d k (nextRow d j))
 after-suc hor k i j = omega arith
 after-suc ver k i j = omega arith
 
+-- steps lead to no lower index
 after-le : (d : Dir) (k i j : ℕ) → (i ≤ columnAfter d k i) × (j ≤ rowAfter d k j)
 after-le hor k i j = omega arith
 after-le ver k i j = omega arith

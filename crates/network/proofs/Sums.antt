@@ -23,10 +23,12 @@ pub sum-add : {A : Type 0} (f g : A → ℕ) (l : List A) → sum (λ a. f a + g
 sum-add f g [] = omega arith
 sum-add f g (a ∷ l) = omega (arith, sum-add f g l)
 
+-- a sum of nothing
 pub sum-zero : {A : Type 0} (l : List A) → sum (λ a. 0) l ≡ 0
 sum-zero [] = refl
 sum-zero (a ∷ l) = omega (arith, sum-zero l)
 
+-- a sum of sums, in the other order
 pub sum-swap : {A B : Type 0} (f : A → B → ℕ) (l : List A) (k : List B) → sum (λ b. sum (λ a. f a b) l) k ≡ sum (λ a. sum (f a) k) l
 sum-swap f [] k = sum-zero k
 sum-swap f (a ∷ l) k = omega (arith, sum-add (f a) (λ b. sum (λ c. f c b) l) k, sum-swap f l k)
@@ -71,6 +73,7 @@ sumTo-one (suc n) j f l h = go (ℕ-discrete j n) (sumTo-one n j f)
 pub double-zero : (n m : ℕ) (f : ℕ → ℕ → ℕ) → ((i j : ℕ) → i < n → j < m → f i j ≡ 0) → sumTo n (λ i. sumTo m (f i)) ≡ 0
 double-zero n m f h = sumTo-zero n _ (λ i l. sumTo-zero m _ (λ j k. h i j l k))
 
+-- only one pair counts
 pub double-one : (n m a b : ℕ) (f : ℕ → ℕ → ℕ) → a < n → b < m → ((i j : ℕ) → i < n → j < m → (i ≡ a → j ≡ b → ⊥) → f i j ≡ 0)
     → sumTo n (λ i. sumTo m (f i)) ≡ f a b
 double-one n m a b f p q h =

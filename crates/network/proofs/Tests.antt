@@ -18,6 +18,7 @@ pub and-split : (a b : Bool) → a && b ≡ true → (a ≡ true) × (b ≡ true
 and-split true b h = (refl, h)
 and-split false b h = absurd (false≢true h)
 
+-- and back
 pub and-join : (a b : Bool) → a ≡ true → b ≡ true → a && b ≡ true
 and-join true b h k = k
 and-join false b h k = h
@@ -27,6 +28,7 @@ pub or-split : (a b : Bool) → a || b ≡ true → (a ≡ true) ⊎ (b ≡ true
 or-split true b h = inl h
 or-split false b h = inr h
 
+-- and back
 pub or-join : (a b : Bool) → (a ≡ true) ⊎ (b ≡ true) → a || b ≡ true
 or-join true b h = refl
 or-join false b (inl h) = absurd (false≢true h)
@@ -72,16 +74,19 @@ level-true a b c h =
     let k = and-split (eqb a c) (eqb b c) h in
     record { first-at = eqb-true a c (k .0); second-at = eqb-true b c (k .1) }
 
+-- and back
 pub true-level : (a b c : ℕ) → Level a b c → level a b c ≡ true
 unfolding level
 true-level a b c h = and-join (eqb a c) (eqb b c) (eq-eqb a c (h .first-at)) (eq-eqb b c (h .second-at))
 
+-- of a stretch
 pub spans-true : (a b lo hi : ℕ) → spans a b lo hi ≡ true → Spans a b lo hi
 unfolding spans
 spans-true a b lo hi h =
     let k = and-split (leb (min a b) lo) (leb hi (max a b)) h in
     record { low = leb-true (min a b) lo (k .0); high = leb-true hi (max a b) (k .1) }
 
+-- and back
 pub true-spans : (a b lo hi : ℕ) → Spans a b lo hi → spans a b lo hi ≡ true
 unfolding spans
 true-spans a b lo hi h =
@@ -108,6 +113,7 @@ lies-true (upward x y y′) r h =
     let k = and-split (level (r .first .x) (r .second .x) x) (spans (r .first .y) (r .second .y) y y′) h in
     (level-true (r .first .x) (r .second .x) x (k .0), spans-true (r .first .y) (r .second .y) y y′ (k .1))
 
+-- and back
 pub true-lies : (e : Edge) (r : Run) → Lies e r → lies e r ≡ true
 unfolding lies
 true-lies (across x x′ y) r h =
@@ -119,6 +125,7 @@ true-lies (upward x y y′) r h =
     (true-level (r .first .x) (r .second .x) x (h .0))
     (true-spans (r .first .y) (r .second .y) y y′ (h .1))
 
+-- of an edge in a box
 pub inside-true : (e : Edge) (r : Run) → inside e r ≡ true → Inside e r
 unfolding inside
 inside-true (across x x′ y) r h =
@@ -128,6 +135,7 @@ inside-true (upward x y y′) r h =
     let k = and-split (spans (r .first .x) (r .second .x) x x) (spans (r .first .y) (r .second .y) y y′) h in
     (spans-true (r .first .x) (r .second .x) x x (k .0), spans-true (r .first .y) (r .second .y) y y′ (k .1))
 
+-- and back
 pub true-inside : (e : Edge) (r : Run) → Inside e r → inside e r ≡ true
 unfolding inside
 true-inside (across x x′ y) r h =
@@ -141,14 +149,17 @@ true-inside (upward x y y′) r h =
 
 -- ---- a piece turned round has the same edges on it
 
+-- whether both ends are at a line
 level-turned : (a b c : ℕ) → level a b c ≡ level b a c
 unfolding level
 level-turned a b c = and-comm (eqb a c) (eqb b c)
 
+-- whether a stretch is between them
 spans-turned : (a b lo hi : ℕ) → spans a b lo hi ≡ spans b a lo hi
 unfolding spans
 spans-turned a b lo hi = ap₂ (λ m n. leb m lo && leb hi n) (min-comm a b) (max-comm a b)
 
+-- so it has
 pub lies-turned : (e : Edge) (p q : Point) → lies e (p to q) ≡ lies e (q to p)
 unfolding lies
 lies-turned (across x x′ y) p q = ap₂ _&&_ (level-turned (p .y) (q .y) y) (spans-turned (p .x) (q .x) x x′)

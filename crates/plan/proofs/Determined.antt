@@ -24,6 +24,7 @@ use Rattle.plan.specs.Fits.{PointIn, HeadFits}
 same2 : (u v : ℕ) (r s : List ℕ) → u < 65536 → v < 65536 → bytes2 u ++ r ≡ bytes2 v ++ s → u ≡ v
 same2 u v r s h k e = sym (word2-bytes u h r) ∙ ap (λ l. word2 l 0) e ∙ word2-bytes v k s
 
+-- and of four bytes
 same4 : (u v : ℕ) (r s : List ℕ) → u < 2 ^ 32 → v < 2 ^ 32 → bytes4 u ++ r ≡ bytes4 v ++ s → u ≡ v
 same4 u v r s h k e = sym (word4-bytes u h r) ∙ ap (λ l. word4 l 0) e ∙ word4-bytes v k s
 

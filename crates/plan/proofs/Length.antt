@@ -15,16 +15,18 @@ use Rattle.plan.specs.Records.{headRecord, routeRecord, cornerRecord, en
 use Rattle.plan.specs.Plan.{Entry, entryBytes, totalCorners, bookBytes, entriesFrom}
 use Rattle.plan.proofs.Corners.{records-length}
 
--- the length of an entry, of all entries, and of the whole plan
+-- the length of an entry
 pub entry-length : (e : Entry) → length (entryBytes e) ≡ 7 + 9 * length (e .corners)
 entry-length e =
     length-append (routeRecord (e .number) (e .meets) (length (e .corners))) (flatMap cornerRecord (e .corners)) ∙ ap (λ n. 7 + n) (records-length (e .corners))
 
+-- the length of all entries
 pub runs-length : (es : List Entry) → length (flatMap entryBytes es) ≡ 7 * length es + 9 * totalCorners es
 unfolding flatMap
 runs-length [] = refl
 runs-length (e ∷ es) = length-append (entryBytes e) (flatMap entryBytes es) ∙ omega (arith, entry-length e, runs-length es)
 
+-- and of the whole plan
 pub book-length : (head : Head) (es : List Entry) → length (bookBytes head es) ≡ 22 + 7 * length es + 9 * totalCorners es
 unfolding bookBytes
 book-length head es =
@@ -51,6 +53,7 @@ pub entries-length : (number meets : ℕ → ℕ) (i : ℕ) (own : List Route) �
 entries-length number meets i [] = refl
 entries-length number meets i (c ∷ own) = ap suc (entries-length number meets (suc i) own)
 
+-- what holds of all routes holds of the corners of all entries
 pub entries-all : (P : Route → Type 0) (number meets : ℕ → ℕ) (i : ℕ) (own : List Route) → All P own → All (λ e. P (e .corners)) (entriesFrom number meets i own)
 entries-all P number meets i [] a = tt
 entries-all P number meets i (c ∷ own) a = (a .0, entries-all P number meets (suc i) own (a .1))

@@ -1,6 +1,6 @@
 -- The corners that a walker yields are those of the network's route: on the grid of indexes, and on every grid once the lines are looked up.
 -- Both are the turns of the same steps.
-use mathlib.Core.Path.{_≡_, sym, ap, _∙_}
+use mathlib.Core.Path.{_≡_, refl, sym, ap, _∙_}
 use mathlib.Core.List.{List, map, map-id, map-map, flatten}
 use Prim.Native.Nat.{ℕ, _-_, _≤_, _<_}
 use native.Mathlib.Omega.{arith}
@@ -14,14 +14,14 @@ use Rattle.network.specs.Corners.{samePoint, corners}
 use Rattle.network.proofs.Tests.{same-test}
 use Rattle.network.proofs.Rising.{one-index}
 use Rattle.network.proofs.Lanes.{at-fits, point-path}
-use Rattle.network.proofs.Corners.{point-true}
+use Rattle.network.proofs.Corners.{point-true, true-point}
 use Rattle.route.specs.declared.Route.{Route}
 use Rattle.route.specs.Route.{stepsOf, columnsOf, rowsOf, drawnOf, OnGrid, numbered, cornersOf, placed, Tables}
 use Rattle.network.specs.Entries.{below-at, length-below}
 use Rattle.route.specs.Walker.{standing}
 use Rattle.network.specs.Pits.{pitsOf}
 use Rattle.route.proofs.Lists.{all-map, map-cong, flatten-map, flatten-all}
-use Rattle.route.proofs.Distinct.{same-self, unique-map}
+use Rattle.route.proofs.Distinct.{unique-map}
 use Rattle.route.proofs.Lanes.{fits-more, columns-extent, rows-extent}
 use Rattle.route.proofs.Turns.{turns, turns-map, turns-all, turns-length, corners-turns}
 use Rattle.route.proofs.Walk.{few-steps, left, on-start, vertexAt, left-turns}
@@ -29,6 +29,7 @@ use Rattle.route.proofs.Walk.{few-steps, left, on-start, vertexAt, left
 -- the corners on a grid, from the turns in line indexes, by a map that takes the route's vertices there
 module _ (g : Grid) (r : Route) (o : OnGrid g r) (m : Point → Point)
     (same : (i j : ℕ) → i ≤ extent (columnsOf r) → j ≤ extent (rowsOf r) → m (vertexAt r i j) ≡ spot g (columnsOf r) (rowsOf r) i j) where
+  -- they are the corners of the route there
   mapped-turns : map m (turns (vertexAt r) 0 0 2 (stepsOf r)) ≡ corners (drawnOf g r)
   mapped-turns =
       let p = columns-extent r in
@@ -105,8 +106,8 @@ module _ (g : Grid) (few-columns : length (g .columns) ≤ 64) (few-rows : lengt
       (sym (t .column-at (p .x) (h .column)) ∙ ap (λ u. u .x) s ∙ t .column-at (q .x) (k .column)) in
       let b = one-index (g .rows) (g .rows-rise) (p .y) (q .y) (h .row) (k .row)
       (sym (t .row-at (p .y) (h .row)) ∙ ap (λ u. u .y) s ∙ t .row-at (q .y) (k .row)) in
-      rw (point-path a b) (same-self q))
-      (λ e. rw (point-true p q e) (same-self (placed columns rows q)))
+      rw (point-path a b) (true-point q q refl))
+      (λ e. rw (point-true p q e) (true-point (placed columns rows q) (placed columns rows q) refl))
 
   -- Routes have as many pits in line indexes as on the grid.
   pub pits-placed : (routes : List Route) → All (OnGrid g) routes → pitsOf (map (λ r. corners (drawnOf g r)) routes) ≡ pitsOf (map cornersOf routes)

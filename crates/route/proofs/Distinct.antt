@@ -5,26 +5,22 @@ use mathlib.Core.Bool.{Bool, true, false, cond, _||_}
 use mathlib.Core.List.{List, [], _∷_, _++_, map}
 use Prim.Native.Nat.{ℕ, _+_}
 use native.Mathlib.Omega.{arith}
-use borrow.Author.Tests.{eq-eqb}
 use lib.ListN.{length}
 use Rattle.network.specs.Plane.{Point}
 use Rattle.network.specs.Lists.{All}
 use Rattle.network.specs.Corners.{samePoint}
 use Rattle.network.proofs.Tests.{same-test}
-use Rattle.network.proofs.Corners.{point-true}
+use Rattle.network.proofs.Corners.{point-true, true-point}
 use Rattle.network.specs.Pits.{among, unique}
 
 -- ---- the same point
 
-pub same-self : (p : Point) → samePoint p p ≡ true
-unfolding samePoint
-same-self p = rw (eq-eqb (p .x) (p .x) refl, eq-eqb (p .y) (p .y) refl)
-
+-- the test is symmetric
 same-turned : (p q : Point) → samePoint p q ≡ samePoint q p
 same-turned p q =
     same-test (samePoint p q) (samePoint q p)
-    (λ e. rw (point-true p q e) (same-self q))
-    (λ e. rw (point-true q p e) (same-self p))
+    (λ e. rw (point-true p q e) (true-point q q refl))
+    (λ e. rw (point-true q p e) (true-point p p refl))
 
 -- ---- one point more
 

@@ -21,10 +21,9 @@ use Rattle.network.specs.Corners.{samePoint, straightOn, cornersFrom, corners}
 use Rattle.network.proofs.Tests.{and-join, or-join}
 use Rattle.network.proofs.Monotone.{Towards, towards-trans, Monotone, monotone}
 use Rattle.network.proofs.Lanes.{lane-next, point-path}
-use Rattle.network.proofs.Corners.{point-true}
+use Rattle.network.proofs.Corners.{point-true, true-point}
 use Rattle.network.proofs.Counting.{route-frame}
 use Rattle.route.proofs.Lanes.{fits-few}
-use Rattle.route.proofs.Distinct.{same-self}
 
 -- a route that stands still goes straight on
 still-straight : (p q r : Point) → Straight (q to r) → samePoint p q ≡ true → straightOn p q r ≡ true
@@ -63,7 +62,7 @@ module _ (g : Grid) (X Y : Lane) (fx : Fits (g .columns) X) (fy : Fits (g .rows)
     where
       go : (c r : ℕ) → q ≡ spot g X Y (i + c) (j + r) → 0 < c + r
       go zero zero e =
-          let s : samePoint (spot g X Y i j) q ≡ true = rw (e, add-zero i, add-zero j) (same-self (spot g X Y i j)) in
+          let s : samePoint (spot g X Y i j) q ≡ true = rw (e, add-zero i, add-zero j) (true-point (spot g X Y i j) (spot g X Y i j) refl) in
           let z : _≡_ {A = ℕ} 0 1 = cc in
           omega arith
       go zero (suc r) e = omega arith

@@ -37,26 +37,29 @@ pub lane-extent : (b : Bool) (a n : ℕ) → extent (lane b a n) ≡ n
 lane-extent true a n = refl
 lane-extent false a n = refl
 
--- the columns of a route are as many as its steps along the row, and the rows as those along the column
+-- the columns of a route are as many as its steps along the row
 pub columns-extent : (r : Route) → extent (columnsOf r) ≡ steps hor (stepsOf r)
 columns-extent r = lane-extent (r .right) (r .start .column) (steps hor (stepsOf r))
 
+-- and the rows
 pub rows-extent : (r : Route) → extent (rowsOf r) ≡ steps ver (stepsOf r)
 rows-extent r = lane-extent (r .up) (r .start .row) (steps ver (stepsOf r))
 
--- the first line is a, and each has its following one
+-- the first line is a
 pub lane-start : (b : Bool) (a n : ℕ) → a ≡ at (lane b a n) 0
 lane-start true a n = omega arith
 lane-start false a n = omega arith
 
+-- and each line has its following one
 pub lane-following : (b : Bool) (a n i : ℕ) → at (lane b a n) (suc i) ≡ following b (at (lane b a n) i)
 lane-following true a n i = omega arith
 lane-following false a n i = omega arith
 
--- on 64 lines: they are among the 64, and before the last there is room for a step
+-- on 64 lines: they are among the 64
 pub lane-in : (b : Bool) (a n i : ℕ) → Fits (below 64) (lane b a n) → i ≤ n → at (lane b a n) i < 64
 lane-in b a n i f h = omega (arith, at-fits (below 64) (lane b a n) f i (rw (lane-extent b a n) h), length-below 64)
 
+-- and before the last there is room for a step
 pub lane-room : (b : Bool) (a n i : ℕ) → Fits (below 64) (lane b a n) → i < n → Room b (at (lane b a n) i)
 lane-room true a n i f h = omega (arith, length-below 64)
 lane-room false a n i f h = omega (arith, length-below 64)

@@ -30,17 +30,19 @@ map-cong P f g h (x ∷ l) a = cc (h x (a .0), map-cong P f g h l (a .1))
 pub map-take : {A B : Type 0} (f : A → B) (l : List A) (i : ℕ) (d : A) → i < length l → map f (take (i + 1) l) ≡ map f (take i l) ++ f (getD l i d) ∷ []
 map-take f l i d h = rw (add-one, take-suc l i d h) (map-append f (take i l) (getD l i d ∷ []))
 
+-- one list more, at the end
 pub flatten-last : {A : Type 0} (ls : List (List A)) (l : List A) → flatten (ls ++ l ∷ []) ≡ flatten ls ++ l
 unfolding flatten
 flatten-last [] l = append-nil l
 flatten-last (k ∷ ls) l = ap (λ m. k ++ m) (flatten-last ls l) ∙ sym (append-assoc k (flatten ls) l)
 
--- joining mapped lists is mapping the joined list, and what holds of all their elements holds of it
+-- joining mapped lists is mapping the joined list
 pub flatten-map : {A B : Type 0} (f : A → B) (ls : List (List A)) → flatten (map (map f) ls) ≡ map f (flatten ls)
 unfolding flatten
 flatten-map f [] = refl
 flatten-map f (l ∷ ls) = rw (map-append f l (flatten ls), flatten-map f ls)
 
+-- what holds of all their elements holds of the joined list
 pub flatten-all : {A : Type 0} (P : A → Type 0) (ls : List (List A)) → All (All P) ls → All P (flatten ls)
 unfolding flatten
 flatten-all P [] a = tt

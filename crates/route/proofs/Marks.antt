@@ -15,14 +15,14 @@ use Rattle.network.proofs.Lanes.{point-path}
 use Rattle.route.specs.Marked.{markOf, Marked, Counted}
 use Rattle.network.specs.Pits.{among, unique}
 use Rattle.route.proofs.Lists.{map-take, flatten-last}
-use Rattle.network.proofs.Corners.{point-true}
-use Rattle.route.proofs.Distinct.{same-self, among-last, unique-last}
+use Rattle.network.proofs.Corners.{point-true, true-point}
+use Rattle.route.proofs.Distinct.{among-last, unique-last}
 
 -- points of the grid of indexes have marks of their own
 other-mark : (p q : Point) → p .x < 64 → q .x < 64 → samePoint q p ≡ false → markOf q ≡ markOf p → ⊥
 other-mark p q h k s e =
     let d : q ≡ p = point-path (omega arith) (omega arith) in
-    let t : samePoint q p ≡ true = rw d (same-self p) in
+    let t : samePoint q p ≡ true = rw d (true-point p p refl) in
     let z : _≡_ {A = ℕ} 0 1 = cc in
     omega arith
 
@@ -46,6 +46,7 @@ module _ (ms : List ℕ) (p : Point) (column : p .x < 64) (row : p .y < 64) wher
         go true e = rw (point-true q p e) (ne-eqb (getD ns (markOf p) 0) 0 here ∙ or-true (among p l))
         go false e = rw (there (markOf q) (other-mark p q column h e)) (m .marked q h k ∙ or-false (among q l))
 
+    -- so the marks are those of that list
     marked-more : (l : List Point) → Marked ms l → Marked ns (l ++ p ∷ [])
     marked-more l m = record { size = long ∙ m .size; marked = mark-at l m }
 
@@ -72,10 +73,11 @@ module _ (ms : List ℕ) (p : Point) (column : p .x < 64) (row : p .y < 64) wher
             unique-last l p ∙ rw s;
       }
 
--- nothing marked, and one marking after another
+-- nothing marked
 pub counted-none : (ms : List ℕ) → Counted ms ms [] 0
 counted-none ms = record { marked = λ l m. rw (append-nil l) m; new = λ l m. rw (append-nil l) (omega arith) }
 
+-- one marking after another
 pub counted-next : (ms ns os : List ℕ) (xs ys : List Point) (m n : ℕ) → Counted ms ns xs m → Counted ns os ys n → Counted ms os (xs ++ ys) (m + n)
 counted-next ms ns os xs ys m n p q =
     record {
@@ -99,10 +101,11 @@ counted-all ms l n p =
 abbrev pub Rest : List Point → List ℕ → List ℕ → List Point → ℕ → Type 0
 Rest all ms ns l n = (os : List ℕ) (k : ℕ) → Counted ns os l k → Counted ms os all (n + k)
 
--- all is left, and one less
+-- all is left
 pub rest-all : (all : List Point) (ms : List ℕ) → Rest all ms ms all 0
 rest-all all ms os k c = rw (zero-add k) c
 
+-- one point less
 pub rest-one : (all : List Point) (ms ns ps : List ℕ) (p : Point) (l : List Point) (n m : ℕ) → Rest all ms ns (p ∷ l) n → Counted ns ps (p ∷ []) m
     → Rest all ms ps l (n + m)
 rest-one all ms ns ps p l n m r c os k d = rw (add-assoc n m k) (r os (m + k) (counted-next ns ps os (p ∷ []) l m k c d))

@@ -1,7 +1,7 @@
 -- The corners of the route that a step list draws are its start, the vertices at which its direction changes, and its end. `turns` lists them by
 -- looking at the steps alone, so that it says the same on every grid.
 use mathlib.Core.Path.{_≡_, refl, ap, _∙_}
-use mathlib.Core.Bool.{Bool, true, false, not, _&&_, _||_}
+use mathlib.Core.Bool.{Bool, true, false, not, _&&_, or-true}
 use mathlib.Core.List.{List, [], _∷_, map}
 use Prim.Native.Nat.{ℕ, suc, _+_, _≤_, _<_}
 use native.Mathlib.Omega.{arith}
@@ -28,6 +28,7 @@ turns f i j h [] = f i j ∷ []
 turns f i j h (hor ∷ s) = passing (not (eqb 0 h)) (f i j) (turns f (suc i) j 0 s)
 turns f i j h (ver ∷ s) = passing (not (eqb 1 h)) (f i j) (turns f i (suc j) 1 s)
 
+-- a vertex that is passed is one corner at most
 passing-length : (b : Bool) (p : Point) (l : List Point) → length (passing b p l) ≤ suc (length l)
 passing-length true p l = omega arith
 passing-length false p l = omega arith
@@ -40,10 +41,12 @@ turns-length f i j h (ver ∷ s) = omega (arith, turns-length f i (suc j) 1 s, p
 
 -- they are vertices of the way
 module _ (P : Point → Type 0) (f : ℕ → ℕ → Point) (I J : ℕ) (holds : (i j : ℕ) → i ≤ I → j ≤ J → P (f i j)) where
+  -- a corner that is passed is such a vertex
   passing-all : (b : Bool) (i j : ℕ) → i ≤ I → j ≤ J → (l : List Point) → All P l → All P (passing b (f i j) l)
   passing-all true i j p q l a = (holds i j p q, a)
   passing-all false i j p q l a = a
 
+  -- so all are
   pub turns-all : (i j h : ℕ) (s : List Dir) → i + steps hor s ≤ I → j + steps ver s ≤ J → All P (turns f i j h s)
   unfolding steps
   turns-all i j h [] p q = (holds i j (omega arith) (omega arith), tt)
@@ -54,10 +57,12 @@ module _ (P : Point → Type 0) (f : ℕ → ℕ → Point) (I J : ℕ) (holds :
 
 -- the same steps turn at the same vertices, wherever these are
 module _ (f g : ℕ → ℕ → Point) (m : Point → Point) (I J : ℕ) (same : (i j : ℕ) → i ≤ I → j ≤ J → m (f i j) ≡ g i j) where
+  -- a vertex that is passed
   passing-map : (b : Bool) (i j : ℕ) → i ≤ I → j ≤ J → (l k : List Point) → map m l ≡ k → map m (passing b (f i j) l) ≡ passing b (g i j) k
   passing-map true i j p q l k e = cc (same i j p q)
   passing-map false i j p q l k e = e
 
+  -- all of them
   pub turns-map : (i j h : ℕ) (s : List Dir) → i + steps hor s ≤ I → j + steps ver s ≤ J → map m (turns f i j h s) ≡ turns g i j h s
   unfolding steps
   turns-map i j h [] p q = cc (same i j (omega arith) (omega arith))
@@ -69,10 +74,6 @@ module _ (f g : ℕ → ℕ → Point) (m : Point → Point) (I J : ℕ) (same :
       (turns-map i (suc j) 1 s (omega arith) (omega arith))
 
 -- ---- the corners of a drawn route
-
-or-true : (b : Bool) → b || true ≡ true
-or-true true = refl
-or-true false = refl
 
 module _ (g : Grid) (X Y : Lane) (fx : Fits (g .columns) X) (fy : Fits (g .rows) Y) where
   -- a vertex before (i, j) on the line by which d leads there
@@ -92,10 +93,12 @@ module _ (g : Grid) (X Y : Lane) (fx : Fits (g .columns) X) (fy : Fits (g .rows)
       let x : ℕ → ℕ = λ n. getD (g .columns) (at X n) 0 in
       rw (eq-eqb (getD (g .rows) (at Y j) 0) (getD (g .rows) (at Y j) 0) refl) (or-true (eqb (x k) (x i) && eqb (x i) (x (suc i))))
 
+  -- along a column
   on-column : (k i j : ℕ) → straightOn (spot g X Y i k) (spot g X Y i j) (spot g X Y i (suc j)) ≡ true
   unfolding straightOn
   on-column k i j = rw (eq-eqb (getD (g .columns) (at X i) 0) (getD (g .columns) (at X i) 0) refl)
 
+  -- from a row to a column
   off-row : (k i j : ℕ) → k < i → i ≤ extent X → suc j ≤ extent Y → straightOn (spot g X Y k j) (spot g X Y i j) (spot g X Y i (suc j)) ≡ false
   unfolding straightOn
   off-row k i j h p q =
@@ -105,6 +108,7 @@ module _ (g : Grid) (X Y : Lane) (fx : Fits (g .columns) X) (fy : Fits (g .rows)
         eq-eqb (getD (g .rows) (at Y j) 0) (getD (g .rows) (at Y j) 0) refl,
       )
 
+  -- from a column to a row
   off-column : (k i j : ℕ) → k < j → j ≤ extent Y → suc i ≤ extent X → straightOn (spot g X Y i k) (spot g X Y i j) (spot g X Y (suc i) j) ≡ false
   unfolding straightOn
   off-column k i j h p q =

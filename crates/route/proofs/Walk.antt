@@ -25,6 +25,7 @@ use Rattle.route.proofs.Turns.{passing, turns}
 -- ---- the step list
 
 module _ (r : Route) (full : length (r .steps) ≡ 128) (held : r .count ≤ 128) where
+  -- there are as many steps as the route counts
   pub steps-length : length (stepsOf r) ≡ r .count
   unfolding stepsOf
   steps-length = length-map (take (r .count) (r .steps)) dirOf ∙ length-take-le (r .count) (r .steps) (omega arith)
@@ -34,10 +35,11 @@ module _ (r : Route) (full : length (r .steps) ≡ 128) (held : r .count ≤ 128
   unfolding stepsOf
   step-at i h = List·getD-map dirOf (take (r .count) (r .steps)) i 0 ∙ ap dirOf (getD-take (r .count) (r .steps) i 0 h)
 
-  -- the steps up to it, and from it on
+  -- the steps up to it
   pub taken-next : (i : ℕ) → i < r .count → take (suc i) (stepsOf r) ≡ take i (stepsOf r) ++ dirOf (getD (r .steps) i 0) ∷ []
   taken-next i h = take-suc (stepsOf r) i hor (omega (arith, steps-length)) ∙ rw (step-at i h)
 
+  -- from it on
   pub rest-next : (i : ℕ) → i < r .count → drop i (stepsOf r) ≡ dirOf (getD (r .steps) i 0) ∷ drop (suc i) (stepsOf r)
   rest-next i h = drop-cons (stepsOf r) i hor (omega (arith, steps-length)) ∙ rw (step-at i h)
 
@@ -70,11 +72,12 @@ few-steps r g =
     )
 
 module _ (r : Route) (w : Walker) (o : On r w) where
-  -- the walker stands at a vertex of the grid of indexes
+  -- the walker stands in a column of the grid of indexes
   pub column-in : w .here .column < 64
   unfolding numbered
   column-in = rw (o .column) (lane-in (r .right) _ _ _ (o .grid .columns-fit) (steps-take hor (w .at) (stepsOf r)))
 
+  -- in a row of it
   pub row-in : w .here .row < 64
   unfolding numbered
   row-in = rw (o .row) (lane-in (r .up) _ _ _ (o .grid .rows-fit) (steps-take ver (w .at) (stepsOf r)))
@@ -102,11 +105,13 @@ module _ (r : Route) (w : Walker) (o : On r w) where
     next-column hor e = rw (e, step-along hor (take (w .at) (stepsOf r)), o .column) (sym (lane-following (r .right) _ _ _))
     next-column ver e = rw (e, step-across hor (take (w .at) (stepsOf r)), o .column)
 
+    -- in its row
     next-row : (d : Dir) → take (suc (w .at)) (stepsOf r) ≡ take (w .at) (stepsOf r) ++ d ∷ []
         → ahead r d (w .here) .row ≡ at (rowsOf r) (steps ver (take (suc (w .at)) (stepsOf r)))
     next-row hor e = rw (e, step-across ver (take (w .at) (stepsOf r)), o .row)
     next-row ver e = rw (e, step-along ver (take (w .at) (stepsOf r)), o .row) (sym (lane-following (r .up) _ _ _))
 
+    -- so the walker stands on the route after the step
     on-next : On r (stepped r w .walker)
     on-next =
         let e = taken-next r (o .full) (o .grid .held) (w .at) h in
@@ -152,19 +157,22 @@ module _ (r : Route) (w : Walker) (s : Stepped) (o : On r w) (h : w .at < r .cou
   pub at-step : s .walker .at ≡ suc (w .at)
   at-step = rw e
 
+  -- stands on the route
   pub on-step : On r (s .walker)
   on-step = rw e (on-next r w o h)
 
+  -- what is left before the step, by what is left after it
   left-next : left r w ≡ passing (s .turned) (crossing (w .here)) (left r (s .walker))
   unfolding left
   left-next =
       let n : r .count - w .at ≡ suc (r .count - suc (w .at)) = omega arith in
       rw (n, e)
 
-  -- a step that turns passes a corner, any other none
+  -- a step that turns passes a corner
   pub left-turned : s .turned ≡ true → left r w ≡ crossing (w .here) ∷ left r (s .walker)
   left-turned t = left-next ∙ rw t
 
+  -- and one that goes straight on passes none
   pub left-straight : s .turned ≡ false → left r w ≡ left r (s .walker)
   left-straight t = left-next ∙ rw t
 

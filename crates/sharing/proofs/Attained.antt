@@ -37,16 +37,19 @@ use Rattle.sharing.proofs.Most.{figure-is, weight, common-is, rises-for
 
 -- ---- the sum of w over the steps of a walk, the last step first
 
+-- by recursion from the last step
 backSum : (Dir → ℕ → ℕ → ℕ) → List Dir → ℕ
 backSum w [] = 0
 backSum w (d ∷ p) = backSum w p + w d (steps hor p) (steps ver p)
 
+-- it is the sum over the steps in their order
 back-steps : (w : Dir → ℕ → ℕ → ℕ) (p r : List Dir) → stepSum w 0 0 (reverseAux p r) ≡ backSum w p + stepSum w (steps hor p) (steps ver p) r
 unfolding backSum steps
 back-steps w [] r = omega arith
 back-steps w (hor ∷ p) r = omega (arith, back-steps w p (hor ∷ r))
 back-steps w (ver ∷ p) r = omega (arith, back-steps w p (ver ∷ r))
 
+-- a move of a walk goes no further than the walk
 at-moved : {x : Move} {q p : List Move} (e : Dir) → At x q p → moved e (x ∷ q) ≤ moved e p
 at-moved e here = omega arith
 at-moved e (past {y} {p} i) = omega (arith, at-moved e i, steps-le e (y .dir) (dirs p))
@@ -61,20 +64,24 @@ module _ (v : View) (runs : List Run) (box : ℕ → Box) (c : ℕ) (C : Centred
   p : List Move
   p = reverse moves
 
+  -- the frame of run k shows its box
   frame : (k : ℕ) → k < length runs → Frame (v .grid) (shown v (box k)) (X k) (Y k)
   frame k h = rw (C .shows k h .same-run) (frames k h)
 
   -- ---- they are Manhattan routes
 
+  -- the centre's moves lead as far as its points are apart
   centre-leads : (d : Dir) → steps d (dirs moves) ≡ gap (box c .first d) (box c .second d)
   centre-leads d = omega (arith, traced .leads d, gap-rise (box c .first d) (box c .second d) (C .rises d))
 
+  -- a leaf's steps lead as far as its points are apart
   leads : (k : ℕ) → meets (v .grid) runs c k ≡ true → (d : Dir) → steps d (leafSteps I k moves) ≡ gap (box k .first d) (box k .second d)
   unfolding I
   leads k m d =
       rw reverse-reverse at (leaf-leads (starOf v runs box c) (separate v runs box c C) k (reverse moves) (traced .kept) d)
       ∙ ap (λ b. gap (b .first d) (b .second d)) (leaf-is v runs box c C k m)
 
+  -- steps that lead so far are a Manhattan route
   goes-by : (k : ℕ) → k < length runs → (s : List Dir) → ((d : Dir) → steps d s ≡ gap (box k .first d) (box k .second d))
       → Manhattan (v .grid) (runAt runs k) (drawn (v .grid) (X k) (Y k) s)
   goes-by k h s l =
@@ -84,6 +91,7 @@ module _ (v : View) (runs : List Run) (box : ℕ → Box) (c : ℕ) (C : Centred
   pub centre-goes : Manhattan (v .grid) (runAt runs c) (drawn (v .grid) (X c) (Y c) (dirs moves))
   centre-goes = goes-by c (C .listed) (dirs moves) centre-leads
 
+  -- a leaf's route is one too
   pub leaf-goes : (k : ℕ) → meets (v .grid) runs c k ≡ true
       → Manhattan (v .grid) (runAt runs k) (drawn (v .grid) (X k) (Y k) (leafSteps (starOf v runs box c) k moves))
   unfolding I
@@ -151,6 +159,7 @@ module _ (v : View) (runs : List Run) (box : ℕ → Box) (c : ℕ) (C : Centred
               sum-below term (length runs),
             ))
 
+    -- so the moves share no more than their edges count
     sharing-le : (r : List Move) → Kept I r → ((x : Move) (q : List Move) → At x q r → At x q p) → sharing I r ≤ backSum W (dirs r)
     unfolding sharing backSum
     sharing-le [] k i = omega arith

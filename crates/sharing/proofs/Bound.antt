@@ -58,10 +58,12 @@ record Good (I : Instance) (T : Table) (d : Dir) (k s t n : ℕ) : Type 0 where
   whole : n ≤ all T d s t
   but : (j : ℕ) → ¬ (j ≡ k) → n ≤ from I T j d s t
 
+-- the same, read along the other direction
 turn-good : {I : Instance} {T : Table} {d : Dir} {k s t n : ℕ} → Good I T d k s t n → Good I T (other d) k t s n
 turn-good {I} {T} {d} {s = s} {t = t} g =
     record { whole = omega (arith, g .whole, all-turn I T d s t); but = λ j h. omega (arith, g .but j h, from-turn I T j d s t) }
 
+-- and back
 back-good : {I : Instance} {T : Table} (d : Dir) {k s t n : ℕ} → Good I T (other d) k t s n → Good I T d k s t n
 back-good hor g = turn-good g
 back-good ver g = turn-good g
@@ -91,10 +93,12 @@ module _ (I : Instance) (T : Table) (S : Separate I) (E : Exact I T) where
       → (all T d s t ≤ T d best (suc s) t) × (T d run (suc s) t ≤ T d best (suc s) t)
   cross-best d k s t i e = omega (arith, rw e at (E .best-is d s t i))
 
+  -- a stretch with a cross leaf begins
   cross-new : (d : Dir) (k s t : ℕ) → Inside I d s t → owner I d s t ≡ cross k → 0 < from I T k d s t
       → from I T k d s t + I .len d s ≤ T d run (suc s) t
   cross-new d k s t i e h = omega (arith, rw e at (E .run-is d s t i), plus-pos (from I T k d s t) (I .len d s) h)
 
+  -- and goes on
   cross-on : (d : Dir) (k s t : ℕ) → Inside I d (suc s) t → owner I d s t ≡ cross k → owner I d (suc s) t ≡ cross k → 0 < T d run (suc s) t
       → T d run (suc s) t + I .len d (suc s) ≤ T d run (suc (suc s)) t
   cross-on d k s t i e e′ h =
@@ -118,6 +122,7 @@ module _ (I : Instance) (T : Table) (S : Separate I) (E : Exact I T) where
       let o = cross-is I d s t S k c (omega arith) in
       arrived o (omega (arith, cross-best d k s t (omega arith) o))
 
+  -- by several edges
   passes : {d : Dir} {k s₀ s t n : ℕ} → falls (I .leaf k) ≡ true → Spot I d k s₀ t → Spot I d k s t → s₀ ≤ s → Good I T d k s₀ t n → Good I T d k s t n
   passes {d} {k} {s₀} {s} {t} {n} c u v h g = le-ind (λ x. x ≤ s → Good I T d k x t n) (λ _. g) more s h (omega arith)
     where
@@ -176,6 +181,7 @@ module _ (I : Instance) (T : Table) (S : Separate I) (E : Exact I T) where
       below : g < all T d s t
       reach : (k : ℕ) → ReachAt d s t g (mode k) k
 
+    -- read along the other direction
     turn-inv : (d : Dir) (s t g : ℕ) → Inv (other d) t s g → Inv d s t g
     turn-inv d s t g v = record { below = omega (arith, v .below, all-turn I T d s t); reach = λ k. go d (mode k) k (v .reach k) }
       where
@@ -192,6 +198,7 @@ module _ (I : Instance) (T : Table) (S : Separate I) (E : Exact I T) where
     here-at ver hor k s t g h = here (omega (arith, from-turn I T k ver s t))
     here-at ver ver k s t g h = here h
 
+    -- since the walk entered the box
     since-at : {m : Dir} {k s₀ t₀ c s t g : ℕ} → Span I T m k s₀ t₀ c s t g → ReachAt m s t g m k
     since-at {m = hor} r = since r
     since-at {m = ver} r = since r
@@ -223,11 +230,13 @@ module _ (I : Instance) (T : Table) (S : Separate I) (E : Exact I T) where
     along m k s t g x i b e (here h) = within {s₀ = s} {t₀ = t} {c = g} x e (omega arith)
     along m k s t g x i b e (since {s₀} {t₀} {c} r) = within {s₀ = s₀} {t₀ = t₀} {c = c} x e (omega arith)
 
+    -- across its mode
     across : (m : Dir) (k s t g : ℕ) → falls (I .leaf k) ≡ true → Spot I m k s t → Spot I m k s (suc t) → mode k ≡ m
         → Reach I T m k s t g → Inv m s (suc t) (g + 0)
     across m k s t g x u v e (here h) = within {s₀ = s} {t₀ = t} {c = g} x e (omega arith)
     across m k s t g x u v e (since {s₀} {t₀} {c} r) = within {s₀ = s₀} {t₀ = t₀} {c = c} x e (omega arith)
 
+    -- by an edge of a cross leaf, whatever the leaf's mode
     step-cross : (d m : Dir) (k s t g : ℕ) → falls (I .leaf k) ≡ true → EdgeIn I d k s t → Inside I d s t → mode k ≡ m
         → ReachAt d s t g m k → Inv d (suc s) t (g + pick d m (I .len d s))
     step-cross hor hor k s t g x i b e r = along hor k s t g x i b e r
@@ -247,6 +256,7 @@ module _ (I : Instance) (T : Table) (S : Separate I) (E : Exact I T) where
             (omega (arith, v .below, rw e at (E .best-is d s t i), plus-pos (all T d s t) (I .len d s) (omega (arith, v .below))))
         go (cross k) e = let f = cross-in I d s t k e in step-cross d (mode k) k s t g (f .0) (f .1) i refl (v .reach k)
 
+    -- it holds at the first point
     start : Inv hor 0 0 0
     unfolding all from
     start = record { below = omega arith; reach = λ k. here-at hor (mode k) k 0 0 0 (omega arith) }

@@ -65,6 +65,7 @@ module _ (v : View) (runs : List Run) (box : ℕ → Box) (c : ℕ) (C : Centred
       go true i = (refl, i)
       go false i = absurd (nowhere-lies d _ _ i)
 
+  -- and back
   pub lies-leaf : (d : Dir) (k s t : ℕ) → meets (v .grid) runs c k ≡ true → LiesFrom (box c) (box k) d s t → EdgeIn (starOf v runs box c) d k s t
   lies-leaf d k s t m i = go (meets (v .grid) runs c k) m
     where
@@ -102,6 +103,7 @@ module _ (v : View) (runs : List Run) (box : ℕ → Box) (c : ℕ) (C : Centred
       → owner (starOf v runs box c) d s t ≡ ownerIf (falls (box k)) k
   leaf-owner d k s t m i = owner-is (starOf v runs box c) d s t separate k (lies-leaf d k s t m i) ∙ rw m
 
+  -- where no leaf's box has the edge there is none
   pub no-owner : (d : Dir) (s t : ℕ) → ((k : ℕ) → meets (v .grid) runs c k ≡ true → LiesFrom (box c) (box k) d s t → ⊥)
       → owner (starOf v runs box c) d s t ≡ none
   no-owner d s t h = owner-none (starOf v runs box c) d s t (λ k i. let (m, j) = leaf-lies d k s t i in h k m j)

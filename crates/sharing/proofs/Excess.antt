@@ -31,6 +31,11 @@ use Rattle.sharing.proofs.Most.{weight, common-is}
 
 -- ---- counting by numbers
 
+-- a test counts one at most
+cond-one : (b : Bool) → cond {A = ℕ} b 1 0 ≤ 1
+cond-one true = omega arith
+cond-one false = omega arith
+
 -- the sum over a list is the sum over the numbers of its elements
 sum-at : {A : Type 0} (f : A → ℕ) (l : List A) (z : A) → sum f l ≡ sumTo (length l) (λ k. f (getD l k z))
 sum-at f [] z = refl
@@ -40,6 +45,7 @@ sum-at {A} f (a ∷ l) z = ap (λ n. f a + n) (sum-at f l z) ∙ sym (front (len
     front zero g = omega arith
     front (suc n) g = omega (arith, front n g)
 
+-- of one route and at most one more, those after the first
 one-more : (b : Bool) (n k : ℕ) → k ≤ 1 → n * pred (cond b 1 0 + k) ≡ cond b (n * k) 0
 one-more true n k h = let e : pred (1 + k) ≡ k = omega arith in ap (λ i. n * i) e
 one-more false n k h = let e : pred (0 + k) ≡ 0 = omega arith in ap (λ i. n * i) e ∙ mul-zero n
@@ -47,6 +53,7 @@ one-more false n k h = let e : pred (0 + k) ≡ 0 = omega arith in ap (λ i. n *
 -- ---- the routes on an edge
 
 module _ (g : Grid) (runs : List Run) (c : ℕ) (star : IsCentre (meets g runs) (below (length runs)) c) (routes : List Route) (m : Routes g runs routes) where
+  -- the centre is a run of the job
   listed : c < length runs
   listed = below-member (length runs) c (star .member)
 
@@ -59,12 +66,8 @@ module _ (g : Grid) (runs : List Run) (c : ℕ) (star : IsCentre (meets g runs) 
   unfolding leafOn
   leaves-one e o =
       rw (sum-below (λ k. cond (leafOn e k) 1 0) (length runs))
-      (one-term (λ k. cond (leafOn e k) 1 0) 1 (length runs) (λ k h p. small (leafOn e k)) (λ j k h i p q. only j k h i (passes (leafOn e j) p) (passes (leafOn e k) q) (ℕ-discrete j k)))
+      (one-term (λ k. cond (leafOn e k) 1 0) 1 (length runs) (λ k h p. cond-one (leafOn e k)) (λ j k h i p q. only j k h i (passes (leafOn e j) p) (passes (leafOn e k) q) (ℕ-discrete j k)))
     where
-      small : (b : Bool) → cond {A = ℕ} b 1 0 ≤ 1
-      small true = omega arith
-      small false = omega arith
-
       passes : (b : Bool) → 0 < cond {A = ℕ} b 1 0 → b ≡ true
       passes true h = refl
       passes false h = absurd (omega arith)
@@ -103,11 +106,7 @@ module _ (g : Grid) (runs : List Run) (c : ℕ) (star : IsCentre (meets g runs) 
 
   -- T3: an edge is on at most two routes
   pub two-routes : (e : Edge) → OfGrid g e → count (on e) routes ≤ 2
-  two-routes e o = omega (arith, count-split e, leaves-one e o, small (on e (routeAt routes c)))
-    where
-      small : (b : Bool) → cond {A = ℕ} b 1 0 ≤ 1
-      small true = omega arith
-      small false = omega arith
+  two-routes e o = omega (arith, count-split e, leaves-one e o, cond-one (on e (routeAt routes c)))
 
   -- so the routes save what the centre's route shares with the leaves'
   pub excess-common : excess g routes ≡ common g runs c routes

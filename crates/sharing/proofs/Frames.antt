@@ -32,6 +32,7 @@ abbrev Way : Bool → ℕ → ℕ → Type 0
 Way true p q = p ≤ q
 Way false p q = q < p
 
+-- so it goes the way that `forward` says
 goes : (b : Box) (d : Dir) (w : Bool) → forward b d ≡ w → Way w (b .first d) (b .second d)
 unfolding forward
 goes b d true e = leb-true (b .first d) (b .second d) e
@@ -43,6 +44,7 @@ record Passing (f w : Bool) (n p q : ℕ) (L : Lane) : Type 0 where
   line : (i : ℕ) → i ≤ extent L → at L i ≡ index f n (cond w (p + i) (p - i))
   edge-low : (i : ℕ) → i < extent L → low L i ≡ lower f n (cond w (p + i) (p - suc i))
 
+-- a lane that fits the lines and has these ends is one
 passing : (l : List ℕ) (f w : Bool) (p q : ℕ) (L : Lane) → Way w p q → p < length l → q < length l → Fits l L
     → at L 0 ≡ index f (length l) p → at L (extent L) ≡ index f (length l) q → Passing f w (length l) p q L
 passing l false true p q (forth a m) o h k z s t = omega (arith, gap-rise p q o)
@@ -60,18 +62,22 @@ laneOf X Y hor = X
 laneOf X Y ver = Y
 
 module _ (v : View) (b : Box) (f : Seen v b) (X Y : Lane) (frame : Frame (v .grid) (shown v b) X Y) where
+  -- each fits its lines
   lane-fits : (d : Dir) → Fits (lines (v .grid) d) (laneOf X Y d)
   lane-fits hor = frame .columns-fit
   lane-fits ver = frame .rows-fit
 
+  -- each begins where the box begins
   start-at : (d : Dir) → getD (lines (v .grid) d) (at (laneOf X Y d) 0) 0 ≡ coordinate v d (b .first d)
   start-at hor = ap (λ (p : Point). p .x) (frame .from)
   start-at ver = ap (λ (p : Point). p .y) (frame .from)
 
+  -- and ends where it ends
   stop-at : (d : Dir) → getD (lines (v .grid) d) (at (laneOf X Y d) (extent (laneOf X Y d))) 0 ≡ coordinate v d (b .second d)
   stop-at hor = ap (λ (p : Point). p .x) (frame .upto)
   stop-at ver = ap (λ (p : Point). p .y) (frame .upto)
 
+  -- so each passes the lines between the box's ends
   passed : (d : Dir) → Passing (v .flip d) (forward b d) (length (lines (v .grid) d)) (b .first d) (b .second d) (laneOf X Y d)
   passed d =
       let l = lines (v .grid) d in

@@ -42,11 +42,13 @@ pub record Passes (b : Box) (s : List Dir) (d : Dir) (a c : ℕ) : Type 0 where
   pub along : lowAfter b d (steps d pre) ≡ a
   pub across : lineAfter b (other d) (steps (other d) pre) ≡ c
 
+-- how many steps go along each direction of a straight way
 replicate-steps : (n : ℕ) → (steps hor (replicate n hor) ≡ n) × (steps ver (replicate n hor) ≡ 0) × (steps hor (replicate n ver) ≡ 0) × (steps ver (replicate n ver) ≡ n)
 unfolding steps
 replicate-steps zero = omega arith
 replicate-steps (suc n) = omega (arith, replicate-steps n)
 
+-- a leg leads as far as its ends are apart
 steps-leg : (e : Dir) (p q : Dir → ℕ) → steps e (leg p q) ≡ gap (p e) (q e)
 steps-leg hor p q =
     omega (
@@ -78,6 +80,7 @@ record Cut (f : Bool) (m₁ : List Dir) (d : Dir) (m₂ : List Dir) : Type 0 whe
   whole : turnIf f (m₁ ++ d ∷ m₂) ≡ pre ++ d ∷ post
   count : (e : Dir) → steps e pre ≡ cond f (steps e m₁) (steps e m₂)
 
+-- so it can be cut
 cut : (f : Bool) (m₁ : List Dir) (d : Dir) (m₂ : List Dir) → Cut f m₁ d m₂
 cut true m₁ d m₂ = record { pre = m₁; post = m₂; whole = refl; count = λ e. refl }
 cut false m₁ d m₂ =
@@ -88,6 +91,7 @@ cut false m₁ d m₂ =
       count = λ e. steps-reverse e m₂;
     }
 
+-- turned or not, it has the same steps
 steps-turn : (f : Bool) (e : Dir) (m : List Dir) → steps e (turnIf f m) ≡ steps e m
 steps-turn true e m = refl
 steps-turn false e m = steps-reverse e m
@@ -132,6 +136,7 @@ module _ (b : Box) (near : Dir → ℕ) (m : List Dir) (f : Bool) (h : Held b ne
           )
 
   module _ (m₁ : List Dir) (d : Dir) (m₂ : List Dir) (parts : m ≡ m₁ ++ d ∷ m₂) (fd : forward b d ≡ f) where
+    -- along the direction of the step
     along-by : lowAfter b d (gap (b .first d) (enter b near m d) + cond f (steps d m₁) (steps d m₂)) ≡ near d + steps d m₁
     along-by = go f fd
       where
@@ -143,6 +148,7 @@ module _ (b : Box) (near : Dir → ℕ) (m : List Dir) (f : Bool) (h : Held b ne
         go false q =
             rw q (omega (arith, count, gap-fall (b .first d) (near d + steps d m) (omega (arith, back-ends b d q, h .stops d))))
 
+    -- and across it
     across-by : lineAfter b (other d) (gap (b .first (other d)) (enter b near m (other d)) + cond f (steps (other d) m₁) (steps (other d) m₂))
         ≡ near (other d) + steps (other d) m₁
     across-by = go (forward b e) refl f (h .way e)
@@ -183,15 +189,18 @@ module _ (b : Box) (near : Dir → ℕ) (m : List Dir) (f : Bool) (h : Held b ne
 
 -- ---- the moves of a walk that are shared with a leaf
 
+-- a move that is shared with k passes the test
 is-mine : (k : ℕ) (x : Move) → Mine k x → isWith k (x .share) ≡ true
 unfolding isWith
 is-mine k x e = rw (e, eq-eqb k k refl)
 
+-- and any other does not
 pub is-other : (k : ℕ) (s : Share) → ¬ (s ≡ with k) → isWith k s ≡ false
 unfolding isWith
 is-other k alone n = refl
 is-other k (with j) n = ne-eqb j k (λ e. n (ap with e))
 
+-- what holds of all elements holds of them in the other order
 pub all-reverse : {A : Type 0} (P : A → Type 0) (l : List A) → All P l → All P (reverse l)
 all-reverse {A} P l a = onto l [] a tt
   where
@@ -200,17 +209,20 @@ all-reverse {A} P l a = onto l [] a tt
     onto (x ∷ l) m a b = onto l (x ∷ m) (a .1) (a .0, b)
 
 module _ (k : ℕ) where
+  -- of moves that are not shared with k no stretch is left
   pub stretch-none : (l : List Move) → All (Other k) l → stretch k l ≡ []
   unfolding stretch
   stretch-none [] a = refl
   stretch-none (x ∷ l) a = rw (is-other k (x .share) (a .0), select) (stretch-none l (a .1))
 
+  -- the stretch of moves that are shared with k between others
   pub stretch-parts : (u m z : List Move) → All (Other k) u → All (Mine k) m → All (Other k) z → stretch k (u ++ m ++ z) ≡ m
   unfolding stretch
   stretch-parts (x ∷ u) m z a b c = rw (is-other k (x .share) (a .0), select) (stretch-parts u m z (a .1) b c)
   stretch-parts [] (x ∷ m) z a b c = rw (is-mine k x (b .0), select) (ap (λ l. x ∷ l) (stretch-parts [] m z tt (b .1) c))
   stretch-parts [] [] z a b c = stretch-none z c
 
+  -- and what is before it
   pub before-parts : (u m z : List Move) → All (Other k) u → All (Mine k) m → 0 < length m → before k (u ++ m ++ z) ≡ u
   unfolding before
   before-parts (x ∷ u) m z a b h = rw (is-other k (x .share) (a .0), before) (ap (λ l. x ∷ l) (before-parts u m z (a .1) b h))
@@ -222,10 +234,12 @@ pub data At (x : Move) (q : List Move) : List Move → Type 0 where
   here : At x q (x ∷ q)
   past : {y : Move} {p : List Move} → At x q p → At x q (y ∷ p)
 
+-- so the walk is some moves, x, and q
 at-parts : {x : Move} {q p : List Move} → At x q p → (l : List Move) × (p ≡ l ++ x ∷ q)
 at-parts here = ([], refl)
 at-parts (past {y} i) = let (l, e) = at-parts i in (y ∷ l, ap (λ p. y ∷ p) e)
 
+-- what holds of all moves holds of x
 at-all : (P : Move → Type 0) {x : Move} {q p : List Move} → At x q p → All P p → P x
 at-all P here a = a .0
 at-all P (past i) a = at-all P i (a .1)
@@ -239,6 +253,7 @@ at-stretch k [] (y ∷ m) z a c e here = (m, here, refl)
 at-stretch k [] (y ∷ m) z a c e (past i) = let (r, j, f) = at-stretch k [] m z tt c e i in (r, past j, f)
 at-stretch k [] [] z a c e i = absurd (at-all (Other k) i c e)
 
+-- the moves of two walks add up
 pub moved-append : (e : Dir) (p q : List Move) → moved e (p ++ q) ≡ moved e p + moved e q
 moved-append e p q = ap (steps e) (map-append (λ (x : Move). x .dir) p q) ∙ steps-append e (dirs p) (dirs q)
 
@@ -254,6 +269,7 @@ one-way b f e (y ∷ l) a = go e (y .dir) (a .0) (one-way b f e l (a .1))
     go ver hor g w = w
     go ver ver g w = inr g
 
+-- so it takes the stretch that way
 via-is : (b : Box) (near : Dir → ℕ) (f : Bool) (l : List Move) → 0 < length l → All (λ x. forward b (x .dir) ≡ f) l
     → via b near (dirs l) ≡ wayBy b near (dirs l) f
 unfolding via wayBy

@@ -74,10 +74,12 @@ pub rises-forward : (b : Box) (d : Dir) → b .first d ≤ b .second d → forwa
 unfolding forward
 rises-forward b d h = le-leb (b .first d) (b .second d) h
 
+-- an edge along d has the direction d
 edge-dir : (v : View) (d : Dir) (s t : ℕ) → dirOf (edge v d s t) ≡ d
 edge-dir v hor s t = refl
 edge-dir v ver s t = refl
 
+-- the length along the direction itself
 pick-same : (d : Dir) (l : ℕ) → pick d d l ≡ l
 pick-same hor l = refl
 pick-same ver l = refl
@@ -87,6 +89,7 @@ module _ (v : View) (runs : List Run) (box : ℕ → Box) (c : ℕ) (C : Centred
   I : Instance
   I = starOf v runs box c
 
+  -- the centre's route
   centre : Route
   centre = routeAt routes c
 
@@ -97,6 +100,7 @@ module _ (v : View) (runs : List Run) (box : ℕ → Box) (c : ℕ) (C : Centred
       let f = seen v runs box c C c (C .listed) in
       (omega (arith, i .along, f d), omega (arith, i .across, f (other d), C .rises (other d)))
 
+  -- a step in the centre's frame is on an edge of its box
   inside-column : (d : Dir) (i j : ℕ) (X Y : Lane) → extent X ≡ box c .second hor - box c .first hor → extent Y ≡ box c .second ver - box c .first ver
       → Inside I d (coord d hor i j) (coord (other d) hor i j) → (nextColumn d i ≤ extent X) × (nextRow d j ≤ extent Y)
   unfolding I
@@ -111,6 +115,7 @@ module _ (v : View) (runs : List Run) (box : ℕ → Box) (c : ℕ) (C : Centred
   Mode : ℕ → Dir → Type 0
   Mode k d = (e : Edge) → OfGrid (v .grid) e → on e centre ≡ true → on e (routeAt routes k) ≡ true → dirOf e ≡ d
 
+  -- so it has a direction, if it is a leaf that falls
   mode : (k : ℕ) → Dec (k < length runs) → (f : Bool) → falls (box k) ≡ f → (d : Dir) × (k < length runs → falls (box k) ≡ true → Mode k d)
   unfolding Mode centre
   mode k (yes h) true f =
@@ -120,9 +125,11 @@ module _ (v : View) (runs : List Run) (box : ℕ → Box) (c : ℕ) (C : Centred
   mode k (yes h) false f = (hor, λ l g. absurd (true≢false (sym g ∙ f)))
   mode k (no n) t f = (hor, λ l g. absurd (n l))
 
+  -- that direction, for each leaf
   modes : ℕ → Dir
   modes k = mode k (decLt k (length runs)) (falls (box k)) refl .0
 
+  -- an edge that both are on goes along it
   mode-is : (d : Dir) (k s t : ℕ) → k < length runs → falls (box k) ≡ true → OfGrid (v .grid) (edge v d s t)
       → on (edge v d s t) centre ≡ true → on (edge v d s t) (routeAt routes k) ≡ true → modes k ≡ d
   unfolding Mode modes
@@ -130,6 +137,7 @@ module _ (v : View) (runs : List Run) (box : ℕ → Box) (c : ℕ) (C : Centred
 
   -- ---- one edge
 
+  -- a length that counts where two tests hold, and is not 0
   cond-pos : (a b : Bool) (n : ℕ) → 0 < cond (a && b) n 0 → (a ≡ true) × (b ≡ true) × (cond (a && b) n 0 ≡ n)
   cond-pos true true n h = (refl, refl, refl)
   cond-pos true false n h = absurd (omega arith)
@@ -187,6 +195,7 @@ module _ (v : View) (runs : List Run) (box : ℕ → Box) (c : ℕ) (C : Centred
   guarded : Edge → ℕ
   guarded e = cond (on e centre) (weight (v .grid) runs c routes e) 0
 
+  -- it is at most what the edge is worth to the walk
   guarded-le : (d : Dir) (s t : ℕ) → Inside I d s t → guarded (edgeFrom v (box c) d s t) ≤ worth modes d (owner I d s t) (I .len d s)
   unfolding guarded
   guarded-le d s t i = go (on (edgeFrom v (box c) d s t) centre) refl
@@ -196,6 +205,7 @@ module _ (v : View) (runs : List Run) (box : ℕ → Box) (c : ℕ) (C : Centred
       go true o = edge-le d s t i o
       go false o = omega arith
 
+  -- on the centre's route the test for being on it changes nothing
   twice : selected (v .grid) (weight (v .grid) runs c routes) (λ e. on e centre) ≡ selected (v .grid) guarded (λ e. on e centre)
   unfolding guarded
   twice = sum-cong _ _ (edges (v .grid)) (λ e h. go (on e centre) (weight (v .grid) runs c routes e))

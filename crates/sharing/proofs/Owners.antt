@@ -19,10 +19,12 @@ pub record Lies (b : Box) (d : Dir) (s t : ℕ) : Type 0 where
   pub across-low : lo b (other d) ≤ t
   pub across-high : t ≤ hi b (other d)
 
+-- the test for a line in a box, as facts
 passes-true : (b : Box) (d : Dir) (s : ℕ) → passes b d s ≡ true → (lo b d ≤ s) × (s ≤ hi b d)
 unfolding passes
 passes-true b d s h = let (x, y) = and-split _ _ h in (leb-true (lo b d) s x, leb-true s (hi b d) y)
 
+-- and back
 true-passes : (b : Box) (d : Dir) (s : ℕ) → lo b d ≤ s → s ≤ hi b d → passes b d s ≡ true
 unfolding passes
 true-passes b d s h k = and-join _ _ (le-leb (lo b d) s h) (le-leb s (hi b d) k)
@@ -35,6 +37,7 @@ lies-in b d s t h =
     let (z, w) = and-split (passes b d s) (passes b d (suc s)) x in
     omega (arith, passes-true b d s z, passes-true b d (suc s) w, passes-true b (other d) t y)
 
+-- and back
 pub in-lies : (b : Box) (d : Dir) (s t : ℕ) → Lies b d s t → liesIn b d s t ≡ true
 unfolding liesIn
 in-lies b d s t i =
@@ -52,6 +55,7 @@ pub record Separate (I : Instance) : Type 0 where
   pub listed : (d : Dir) (k s t : ℕ) → EdgeIn I d k s t → k < I .many
   pub one : (d : Dir) (j k s t : ℕ) → EdgeIn I d j s t → EdgeIn I d k s t → j ≡ k
 
+-- equal owners are the same leaf, of the same kind
 owner-leaf : (x : Bool) (j : ℕ) (y : Bool) (k : ℕ) → ownerIf x j ≡ ownerIf y k → (x ≡ y) × (j ≡ k)
 owner-leaf true j true k e = (refl, cc)
 owner-leaf true j false k e = (cc, cc)
@@ -59,6 +63,7 @@ owner-leaf false j true k e = (cc, cc)
 owner-leaf false j false k e = (refl, cc)
 
 module _ (I : Instance) (d : Dir) (s t : ℕ) where
+  -- the owner among the first n leaves has the edge in its box
   below-in : (n : ℕ) (x : Bool) (k : ℕ) → ownerBelow I n d s t ≡ ownerIf x k → (falls (I .leaf k) ≡ x) × EdgeIn I d k s t
   unfolding ownerBelow
   below-in zero true k e = absurd (let z : _≡_ {A = ℕ} 0 1 = cc in omega arith)
@@ -74,9 +79,11 @@ module _ (I : Instance) (d : Dir) (s t : ℕ) where
   pub cross-in : (k : ℕ) → owner I d s t ≡ cross k → (falls (I .leaf k) ≡ true) × EdgeIn I d k s t
   cross-in k e = below-in (I .many) true k e
 
+  -- of a same owner
   pub same-in : (k : ℕ) → owner I d s t ≡ same k → (falls (I .leaf k) ≡ false) × EdgeIn I d k s t
   same-in k e = below-in (I .many) false k e
 
+  -- a leaf that has the edge in its box is the owner among the first n
   below-is : Separate I → (n k : ℕ) → k < n → EdgeIn I d k s t → ownerBelow I n d s t ≡ leafOwner I k
   unfolding ownerBelow
   below-is S zero k h i = absurd (omega arith)
@@ -98,6 +105,7 @@ module _ (I : Instance) (d : Dir) (s t : ℕ) where
   pub cross-is : Separate I → (k : ℕ) → falls (I .leaf k) ≡ true → EdgeIn I d k s t → owner I d s t ≡ cross k
   cross-is S k f i = owner-is S k i ∙ rw f
 
+  -- where no leaf's box has the edge there is none among the first n
   none-below : (n : ℕ) → ((k : ℕ) → EdgeIn I d k s t → ⊥) → ownerBelow I n d s t ≡ none
   unfolding ownerBelow
   none-below zero h = refl

@@ -50,6 +50,7 @@ any-order = refl
 abbrev touching : Instance
 touching = star 6 6 (box 0 2 4 0 ∷ box 4 6 6 2 ∷ [])
 
+-- the figure of that star
 own-directions : figure touching (filled touching) ≡ 8
 unfolding figure falls ownerBelow liesIn passes lo hi all from unless only
 own-directions = refl
@@ -58,10 +59,12 @@ own-directions = refl
 abbrev go : ℕ → Dir → Share → List Move
 go n d s = replicate n (record { dir = d; share = s })
 
+-- its trace
 moves : trace touching (filled touching) ≡ go 4 hor (with 1) ++ go 2 ver alone ++ go 4 ver (with 2) ++ go 2 hor alone
 unfolding trace back next nextBy nextRun begins comeFrom comeBest come settled falls ownerBelow liesIn passes lo hi all from unless only
 moves = refl
 
+-- the second leaf's steps
 second-leaf : leafSteps touching 2 (trace touching (filled touching)) ≡ replicate 4 ver ++ replicate 2 hor
 unfolding trace back next nextBy nextRun begins comeFrom comeBest come settled falls ownerBelow liesIn passes lo hi all from unless only
     isWith before stretch forward via gap steps

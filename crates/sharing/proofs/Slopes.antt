@@ -22,6 +22,7 @@ slopeOf false true = flipped
 slopeOf true false = flipped
 slopeOf true true = regular
 
+-- so it slopes as its coordinates are ordered
 sloped : (f g : Bool) (r : Run) → Ordered f (r .first .x) (r .second .x) → Ordered g (r .first .y) (r .second .y) → Sloped (slopeOf f g) r
 sloped false false r a b = right-up a b
 sloped false true r a b = right-down a b
@@ -33,6 +34,7 @@ turned : (f : Bool) (a b : ℕ) → Ordered f b a → Ordered (not f) a b
 turned false a b h = h
 turned true a b h = h
 
+-- along either direction
 opposite-of : (f g : Bool) → (slopeOf f (not g) ≡ opposite (slopeOf f g)) × (slopeOf (not f) g ≡ opposite (slopeOf f g))
 opposite-of false false = (refl, refl)
 opposite-of false true = (refl, refl)
@@ -52,6 +54,7 @@ module _ (v : View) where
       (coordinate-order v hor (b .first hor) (b .second hor) (h hor) (f hor .1))
       (coordinate-order v ver (b .first ver) (b .second ver) (h ver) (f ver .1))
 
+  -- one that falls has the opposite slope
   pub falls-sloped : (b : Box) → Seen v b → falls b ≡ true → Sloped (opposite slope) (shown v b)
   unfolding slope falls
   falls-sloped b f e =

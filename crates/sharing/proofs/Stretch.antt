@@ -5,7 +5,7 @@
 -- x begins, and nothing earlier can lie in the box, since a walk goes right and up only.
 use mathlib.Core.Path.{_≡_, refl, sym, ap, _∙_, subst}
 use mathlib.Core.Logic.{_⊎_, inl, inr}
-use mathlib.Core.Bool.{Bool, true, false, _||_, _&&_, false≢true}
+use mathlib.Core.Bool.{Bool, true, false, _&&_, false≢true, or-true}
 use mathlib.Core.List.{List, [], _∷_, _++_}
 use Prim.Native.Nat.{ℕ, _+_, _≤_, _<_}
 use native.Mathlib.Omega.{arith}
@@ -29,6 +29,7 @@ pub forth-ends : (b : Box) (d : Dir) → forward b d ≡ true → (lo b d ≡ b 
 unfolding forward lo hi
 forth-ends b d e = omega (arith, leb-true (b .first d) (b .second d) e)
 
+-- one that goes to lower numbers
 pub back-ends : (b : Box) (d : Dir) → forward b d ≡ false → (lo b d ≡ b .second d) × (hi b d ≡ b .first d)
 unfolding forward lo hi
 back-ends b d e = omega (arith, leb-false (b .first d) (b .second d) e)
@@ -56,11 +57,8 @@ level-ways b f h k = go (leb (b .first hor) (b .second hor)) refl (leb (b .first
           lt-ltb (b .first ver) (b .second ver) (omega arith),
           or-true (ltb (b .first hor) (b .second hor) && ltb (b .second ver) (b .first ver)),
         )))
-      where
-        or-true : (x : Bool) → x || true ≡ true
-        or-true true = refl
-        or-true false = refl
 
+-- so it does along any two in which it is not straight
 same-way : (b : Box) → falls b ≡ false → (d e : Dir) → lo b d < hi b d → lo b e < hi b e → forward b d ≡ forward b e
 same-way b f hor hor h k = refl
 same-way b f hor ver h k = level-ways b f h k
@@ -69,18 +67,21 @@ same-way b f ver ver h k = refl
 
 -- ---- shares and owners
 
+-- what is shared with k is an edge of k
 suits-owner : {o : Owner} {s : Share} {k : ℕ} → Suits o s → s ≡ with k → (o ≡ same k) ⊎ (o ≡ cross k)
 suits-owner free e = absurd (let z : _≡_ {A = ℕ} 0 1 = cc in omega arith)
 suits-owner joined e = inl (cc)
 suits-owner Suits.left e = absurd (let z : _≡_ {A = ℕ} 0 1 = cc in omega arith)
 suits-owner ran e = inr (cc)
 
+-- an edge of a same leaf is shared with it
 suits-same : {o : Owner} {s : Share} {k : ℕ} → Suits o s → o ≡ same k → s ≡ with k
 suits-same free e = cc
 suits-same joined e = cc
 suits-same Suits.left e = cc
 suits-same ran e = cc
 
+-- whether it is shared with k
 dec-with : (s : Share) (k : ℕ) → Dec (s ≡ with k)
 dec-with alone k = no (λ e. let z : _≡_ {A = ℕ} 0 1 = cc in omega arith)
 dec-with (with j) k = go (ℕ-discrete j k)
@@ -122,6 +123,7 @@ module _ (I : Instance) (k : ℕ) where
   spot-in ver p i hor = omega arith
   spot-in ver p i ver = omega arith
 
+  -- where it ends
   end-in : (x : Move) (p : List Move) → MoveIn x p → (e : Dir) → I .start e + moved e (x ∷ p) ≤ hi (I .leaf k) e
   unfolding steps
   end-in x p i e = go (x .dir) e i
@@ -137,6 +139,7 @@ module _ (I : Instance) (k : ℕ) where
   placed-from f x [] p a e = spot-in (x .dir) p (a .1) e .0
   placed-from f x (y ∷ m) p a e = placed-from f y m p (a .3) e
 
+  -- where it ends
   pub placed-upto : (f : Bool) (x : Move) (m p : List Move) → Placed f (x ∷ m) p → (e : Dir) → I .start e + moved e ((x ∷ m) ++ p) ≤ hi (I .leaf k) e
   placed-upto f x m p a e = end-in x (m ++ p) (a .1) e
 
@@ -145,6 +148,7 @@ module _ (I : Instance) (k : ℕ) where
   placed-mine f [] p a = tt
   placed-mine f (x ∷ m) p a = (a .0, placed-mine f m p (a .3))
 
+  -- the leaf goes that way along each of its moves
   pub placed-way : (f : Bool) (m p : List Move) → Placed f m p → All (λ x. forward (I .leaf k) (x .dir) ≡ f) m
   placed-way f [] p a = tt
   placed-way f (x ∷ m) p a = (a .2, placed-way f m p (a .3))

@@ -11,10 +11,12 @@ use Rattle.sharing.specs.Table.{best, Table, atStart, all, zeroIf, unles
 
 -- ---- one word
 
+-- a word or 0 is at most the word
 zeroIf-le : (b : Bool) (n : ℕ) → zeroIf b n ≤ n
 zeroIf-le true n = omega arith
 zeroIf-le false n = omega arith
 
+-- a word that does not count for k is at most the word
 unless-le : (o : Owner) (k n : ℕ) → unless o k n ≤ n
 unfolding unless
 unless-le none k n = omega arith
@@ -42,6 +44,7 @@ pub only-own : (o : Owner) (k n : ℕ) → o ≡ cross k → only o k n ≡ n
 unfolding only
 only-own o k n e = rw (e, eq-eqb k k refl)
 
+-- where it is not 0 it is the word of an edge of k
 pub only-is : (o : Owner) (k x : ℕ) → 0 < only o k x → (only o k x ≡ x) × (o ≡ cross k)
 unfolding only
 only-is none k x z = absurd (omega arith)
@@ -57,6 +60,7 @@ pub plus-pos : (n l : ℕ) → 0 < n → plus n l ≡ n + l
 plus-pos zero l h = omega arith
 plus-pos (suc n) l h = refl
 
+-- where the sum is not 0, neither is the word
 pub plus-is : (x l : ℕ) → 0 < plus x l → (0 < x) × (plus x l ≡ x + l)
 plus-is zero l z = absurd (omega arith)
 plus-is (suc x) l z = (omega arith, refl)
@@ -72,17 +76,20 @@ bestOf-pos (cross k) w r l z = omega arith
 pub left-max : (x y w : ℕ) → w ≡ max x y → leb y x ≡ true → x ≡ w
 left-max x y w e h = omega (arith, leb-true y x h)
 
+-- the second, where it is the larger
 pub right-max : (x y w : ℕ) → w ≡ max x y → leb y x ≡ false → y ≡ w
 right-max x y w e h = omega (arith, leb-false y x h)
 
 -- ---- the words at a vertex
 
+-- the first point, read along the other direction
 start-turn : (s t : ℕ) → atStart s t ≡ atStart t s
 start-turn zero zero = refl
 start-turn zero (suc t) = refl
 start-turn (suc s) zero = refl
 start-turn (suc s) (suc t) = refl
 
+-- away from it the walk does not start
 start-far : (s t n : ℕ) → s + t ≡ suc n → atStart s t ≡ 0
 start-far zero zero n h = absurd (omega arith)
 start-far zero (suc t) n h = refl
@@ -95,6 +102,7 @@ module _ (I : Instance) (T : Table) where
   all-turn hor s t = omega (arith, start-turn s t)
   all-turn ver s t = omega (arith, start-turn s t)
 
+  -- without the edges of k
   pub from-turn : (k : ℕ) (d : Dir) (s t : ℕ) → from I T k d s t ≡ from I T k (other d) t s
   unfolding from
   from-turn k hor s t = omega (arith, start-turn s t)
@@ -106,10 +114,12 @@ module _ (I : Instance) (T : Table) where
   from-all k d s t =
       omega (arith, unless-le (arrival I d s t) k (T d best s t), unless-le (arrival I (other d) t s) k (T (other d) best t s))
 
+  -- no best word is larger than the best of both
   pub best-all : (d : Dir) (s t : ℕ) → T d best s t ≤ all T d s t
   unfolding all
   best-all d s t = omega arith
 
+  -- and none without the edges of k
   pub best-from : (k : ℕ) (d : Dir) (s t : ℕ) → unless (owner I d s t) k (T d best (suc s) t) ≤ from I T k d (suc s) t
   unfolding from
   best-from k d s t = omega arith
@@ -119,6 +129,7 @@ module _ (I : Instance) (T : Table) where
   unfolding all
   all-far d s t n h = omega (arith, start-far s t n h)
 
+  -- without the edges of k
   pub from-far : (k : ℕ) (d : Dir) (s t n : ℕ) → s + t ≡ suc n
       → from I T k d s t ≡ max (unless (arrival I d s t) k (T d best s t)) (unless (arrival I (other d) t s) k (T (other d) best t s))
   unfolding from

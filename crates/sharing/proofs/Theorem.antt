@@ -67,12 +67,15 @@ module _ (v : View) (runs : List Run) (box : ℕ → Box) (c : ℕ) where
     abbrev pub DrawnAt : ℕ → Type 0
     DrawnAt k = routeAt routes k ≡ drawn (v .grid) (X k) (Y k) (stepsOf (starOf v runs box c) c moves k)
 
+    -- the centre's by its moves
     centre-drawn : DrawnAt c → routeAt routes c ≡ drawn (v .grid) (X c) (Y c) (dirs moves)
     centre-drawn e = rw (eq-eqb c c refl) at e
 
+    -- a leaf's by its steps
     leaf-drawn : (k : ℕ) → ¬ (k ≡ c) → DrawnAt k → routeAt routes k ≡ drawn (v .grid) (X k) (Y k) (leafSteps (starOf v runs box c) k moves)
     leaf-drawn k n e = rw (ne-eqb k c n) at e
 
+    -- a run that the centre meets is not the centre
     not-centre : (k : ℕ) → meets (v .grid) runs c k ≡ true → ¬ (k ≡ c)
     not-centre k m e = meets-true (v .grid) runs c k m .0 (sym e)
 

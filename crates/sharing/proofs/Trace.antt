@@ -22,16 +22,19 @@ use Rattle.sharing.proofs.Table.{unless-is, only-is, plus-is, bestOf-po
 
 -- ---- vertices, shares and words
 
+-- a vertex, read along the other direction
 coord-turn : (e d : Dir) (s t : ℕ) → coord e (other d) t s ≡ coord e d s t
 coord-turn hor hor s t = refl
 coord-turn hor ver s t = refl
 coord-turn ver hor s t = refl
 coord-turn ver ver s t = refl
 
+-- its lines along and across
 coord-along : (d : Dir) (s t : ℕ) → (coord d d s t ≡ s) × (coord (other d) d s t ≡ t)
 coord-along hor s t = (refl, refl)
 coord-along ver s t = (refl, refl)
 
+-- those of the first point are 0
 coord-zero : (e d : Dir) (s t : ℕ) → s + t ≡ 0 → 0 ≡ coord e d s t
 coord-zero hor hor s t h = omega arith
 coord-zero hor ver s t h = omega arith
@@ -86,6 +89,7 @@ module _ (I : Instance) (T : Table) where
   settle-word (cross k) d s t true e = eqb-true _ _ e
   settle-word (cross k) d s t false e = refl
 
+  -- so where it is after its best word that does not give it
   settle-best : (o : Owner) (k : ℕ) (b : Bool) → o ≡ cross k → settle o b ≡ best → b ≡ false
   settle-best none k b e h = cc
   settle-best (same j) k b e h = cc
@@ -112,6 +116,7 @@ module _ (I : Instance) (T : Table) where
           to = λ c. refl;
         }
 
+    -- the same, read along the other direction
     turned : (n : ℕ) (d : Dir) (s t : ℕ) (q : State) (w : ℕ) → Reached n (other d) t s q w → Reached n d s t q w
     turned n d s t q w r = record { ready = r .ready; gives = r .gives; to = λ e. r .to e ∙ coord-turn e d s t }
 
@@ -141,6 +146,7 @@ module _ (I : Instance) (T : Table) where
     come-apart false k n d s zero w h r e f o = omega (arith, r .ready .left)
     come-apart false k n d s (suc t) w h r e f o = f refl o
 
+    -- so it is reached
     from-reached : (k n : ℕ) (d : Dir) (s t : ℕ) → s + t ≡ suc n → s ≤ I .size d → t ≤ I .size (other d) → 0 < from I T k d s t
         → Reached n d s t (comeFrom I T k d s t) (from I T k d s t) × ¬ (ownerOf I T (comeFrom I T k d s t) ≡ cross k)
     unfolding comeFrom
@@ -221,6 +227,7 @@ module _ (I : Instance) (T : Table) where
       gain : word q ≡ word r + g
       before : (k : ℕ) → ownerOf I T q ≡ cross k → shareOf (ownerOf I T q) (q .flag) ≡ with k → Before k (here I T q) (here I T r) (ownerOf I T r)
 
+    -- by the three cases of its source
     advance : (n : ℕ) (q r : State) (g : ℕ) → Ready (suc n) q → Source q r g → Advance n q r g
     advance n q r g y (whole z e f) =
         let c = best-reached n (q .dir) (q .along) (q .across) (y .left) (omega (arith, y .inside)) (y .inside .across) z in
@@ -263,6 +270,7 @@ module _ (I : Instance) (T : Table) where
     all-start d zero (suc t) h = absurd (omega arith)
     all-start d (suc s) t h = absurd (omega arith)
 
+    -- without the edges of k
     from-start : (k : ℕ) (d : Dir) (s t : ℕ) → s + t ≡ 0 → from I T k d s t ≡ 1
     unfolding from unless
     from-start k d zero zero h = omega (arith, E .no-edge d best 0 (omega arith), E .no-edge (other d) best 0 (omega arith))
@@ -290,6 +298,7 @@ module _ (I : Instance) (T : Table) where
       kept : Kept I p
       link : Linked I (here I T q) p
 
+    -- one more step leads one line further
     steps-coord : (e d : Dir) (p : List Dir) (s t : ℕ) → ((c : Dir) → steps c p ≡ coord c d s t) → steps e (d ∷ p) ≡ coord e d (suc s) t
     unfolding steps
     steps-coord hor hor p s t h = ap suc (h hor)
@@ -304,6 +313,7 @@ module _ (I : Instance) (T : Table) where
     suits (cross k) best = Suits.left
     suits (cross k) run = ran
 
+    -- so their owner is the state's
     rest-owned : (q : State) (p : List Move) → ((e : Dir) → moved e p ≡ coord e (q .dir) (q .along) (q .across)) → owned I (here I T q) p ≡ ownerOf I T q
     rest-owned q p h =
         let c = coord-along (q .dir) (q .along) (q .across) in

@@ -36,6 +36,7 @@ between-spans : {a t c : ℕ} → Between a t c → Spans a c t t
 between-spans (rise h k) = omega arith
 between-spans (fall h k) = omega arith
 
+-- and back
 spans-between : {a t c : ℕ} → Spans a c t t → Between a t c
 spans-between {a} {t} {c} s = go (order a c)
   where
@@ -48,21 +49,25 @@ abbrev lineAt : List ℕ → Bool → ℕ → ℕ
 lineAt l f p = getD l (index f (length l) p) 0
 
 module _ (l : List ℕ) (r : Rising l) where
+  -- a higher number is further in the order of the axis
   line-order : (f : Bool) (p q : ℕ) → p ≤ q → q < length l → Ordered f (lineAt l f p) (lineAt l f q)
   line-order false p q h k = rising-le l r p q h k
   line-order true p q h k = rising-le l r (length l - suc q) (length l - suc p) (omega arith) (omega arith)
 
+  -- and back
   order-line : (f : Bool) (p q : ℕ) → p < length l → q < length l → Ordered f (lineAt l f p) (lineAt l f q) → p ≤ q
   order-line false p q h k o = index-le l r p q h o
   order-line true p q h k o = omega (arith, index-le l r (length l - suc q) (length l - suc p) (omega arith) o)
 
   module _ (p t q : ℕ) (hp : p < length l) (ht : t < length l) (hq : q < length l) where
+    -- a line between two others by number is between them by coordinate
     line-between : (f : Bool) → Between p t q → Between (lineAt l f p) (lineAt l f t) (lineAt l f q)
     line-between false (rise h k) = rise (line-order false p t h ht) (line-order false t q k hq)
     line-between false (fall h k) = fall (line-order false q t h ht) (line-order false t p k hp)
     line-between true (rise h k) = fall (line-order true t q k hq) (line-order true p t h ht)
     line-between true (fall h k) = rise (line-order true t p k hp) (line-order true q t h ht)
 
+    -- and back
     between-line : (f : Bool) → Between (lineAt l f p) (lineAt l f t) (lineAt l f q) → Between p t q
     between-line false (rise h k) = rise (order-line false p t hp ht h) (order-line false t q ht hq k)
     between-line false (fall h k) = fall (order-line false q t hq ht h) (order-line false t p ht hp k)
@@ -71,12 +76,15 @@ module _ (l : List ℕ) (r : Rising l) where
 
   -- between the lines with the numbers p and q lies a line, and an edge, by number and by coordinate
   module _ (f : Bool) (p q : ℕ) (hp : p < length l) (hq : q < length l) where
+    -- a line, by coordinate
     line-spans : (t : ℕ) → t < length l → Spans p q t t → Spans (lineAt l f p) (lineAt l f q) (lineAt l f t) (lineAt l f t)
     line-spans t h s = between-spans (line-between p t q hp h hq f (spans-between s))
 
+    -- a line, by number
     spans-line : (t : ℕ) → t < length l → Spans (lineAt l f p) (lineAt l f q) (lineAt l f t) (lineAt l f t) → Spans p q t t
     spans-line t h s = between-spans (between-line p t q hp h hq f (spans-between s))
 
+    -- an edge, by coordinate
     edge-spans : (s : ℕ) → suc s < length l → Spans p q s (suc s)
         → Spans (lineAt l f p) (lineAt l f q) (getD l (lower f (length l) s) 0) (getD l (suc (lower f (length l) s)) 0)
     edge-spans s h x = go f (line-spans s (omega arith) (omega arith)) (line-spans (suc s) h (omega arith))
@@ -89,6 +97,7 @@ module _ (l : List ℕ) (r : Rising l) where
             let e : suc (length l - suc (suc s)) ≡ length l - suc s = omega arith in
             omega (arith, ap (λ i. getD l i 0) e)
 
+    -- an edge, by number
     spans-edge : (s : ℕ) → suc s < length l
         → Spans (lineAt l f p) (lineAt l f q) (getD l (lower f (length l) s) 0) (getD l (suc (lower f (length l) s)) 0) → Spans p q s (suc s)
     spans-edge s h x = let (y, z) = go f x in omega (arith, spans-line s (omega arith) y, spans-line (suc s) h z)
@@ -125,6 +134,7 @@ module _ (v : View) where
       go false = h
       go true = omega arith
 
+  -- so is the lower one of an edge's lines
   lower-fits : (d : Dir) (s : ℕ) → suc s < length (lines (v .grid) d) → suc (numberedLow v d s) < length (lines (v .grid) d)
   lower-fits d s h = go (v .flip d)
     where
@@ -137,6 +147,7 @@ module _ (v : View) where
   edge-of hor s t h = across-of (numberedLow v hor s) (numbered v ver t) (lower-fits hor s (h .0)) (index-fits ver t (h .1))
   edge-of ver s t h = upward-of (numbered v hor t) (numberedLow v ver s) (index-fits hor t (h .1)) (lower-fits ver s (h .0))
 
+  -- it is so long
   pub edge-length : (d : Dir) (s t : ℕ) → len (edge v d s t) ≡ width v d s
   unfolding len
   edge-length hor s t = refl
@@ -156,6 +167,7 @@ module _ (v : View) where
         edge-spans (v .grid .rows) (rises (v .grid) ver) (v .flip ver) (b .first ver) (b .second ver) (f ver .0) (f ver .1) s (h .0) (omega arith),
       )
 
+  -- and back
   pub inside-lies : (b : Box) → Seen b → (d : Dir) (s t : ℕ) → Edges d s t → inside (edge v d s t) (shown v b) ≡ true → Lies b d s t
   unfolding lo hi
   inside-lies b f hor s t h i =

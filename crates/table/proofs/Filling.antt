@@ -502,6 +502,7 @@ enter-left words (suc a) p c col left row cross h = ap (λ c. enterOf (suc a) (c
 pub start-none : (u : ℕ) → (u ≡ 0 → ⊥) → startOf u ≡ 0
 start-none u h = ap (λ t. cond t 1 0) (ne-eqb u 0 h)
 
+-- and the words that it starts from are as light
 pub light-none : (x y : Pair) (start len : ℕ) → Light x y start len → Light x y 0 len
 light-none x y start len l =
     record { along-best = l .along-best; along-run = l .along-run; across-best = l .across-best; begins = omega arith; short = l .short }

@@ -11,7 +11,8 @@ use Rattle.layout.specs.declared.Points.{Points}
 use Rattle.layout.specs.Points.{pointsOf}
 use Rattle.layout.specs.Laid.{unlaid, Laid}
 use Rattle.layout.proofs.Finding.{AllFound}
-use Rattle.layout.proofs.Lists.{getD-nothing, set-rest}
+use Rattle.layout.proofs.Lists.{set-rest}
+use Rattle.network.proofs.Lists.{getD-nothing}
 use Rattle.layout.proofs.Laying.{centre-few}
 use Rattle.layout.proofs.routes.Statement.{statement}
 use Rattle.layout.proofs.routes.Tie as tie
