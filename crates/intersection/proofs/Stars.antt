@@ -10,8 +10,8 @@ use lib.ListN.{getD}
 use Rattle.network.specs.Lists.{count}
 use Rattle.network.specs.Plane.{Run}
 use Rattle.network.specs.Grid.{Rising}
-use Rattle.network.specs.Graph.{below, degree, isCentre, centres, IsCentre}
-use Rattle.network.proofs.Centres.{centres-first, first-centres, centres-none, none-centres}
+use Rattle.network.specs.Graph.{below, degree, isCentre, centres}
+use Rattle.network.proofs.Centres.{IsCentre, centres-first, first-centres, centres-none, none-centres}
 use Rattle.network.proofs.Leaves.{below-member}
 use Rattle.network.specs.Entries.{below-rises, length-table, getD-table}
 use Rattle.grid.specs.Tables.{table}

@@ -9,10 +9,16 @@ use borrow.Author.Tests.{eqb-true, eqb-false, ne-eqb, not-true}
 use lib.Dec.{eqb}
 use Rattle.network.specs.Lists.{every, select}
 use Rattle.network.specs.Grid.{Rising}
-use Rattle.network.specs.Graph.{isCentre, IsCentre, centres}
+use Rattle.network.specs.Graph.{isCentre, centres}
 use Rattle.network.proofs.Tests.{and-split, and-join, or-split, is-false}
 use Rattle.network.proofs.Lists.{every-true, true-every, selected-member, member-selected}
 use Rattle.network.proofs.Rising.{rising-head, rising-tail}
+
+-- c is the centre of the group, as a statement: a member, joined to every other member, no two of which are joined
+pub record IsCentre (joined : ℕ → ℕ → Bool) (group : List ℕ) (c : ℕ) : Type 0 where
+  pub member : Member c group
+  pub joins : (i : ℕ) → Member i group → (i ≡ c → ⊥) → joined c i ≡ true
+  pub leaves : (i j : ℕ) → Member i group → Member j group → (i ≡ c → ⊥) → (j ≡ c → ⊥) → joined i j ≡ false
 
 module _ (joined : ℕ → ℕ → Bool) (group : List ℕ) where
   -- a member that passes the test for a centre is one

@@ -1,10 +1,10 @@
 -- The points at which a route goes straight on may be left out: what is left is a Manhattan route on the same edges. So corners only, all
 -- vertices, or anything between are one kind of thing.
 use mathlib.Core.Path.{_≡_, refl, sym, ap, ap₂, _∙_, subst}
-use mathlib.Core.Logic.{inl, ⊎-map}
+use mathlib.Core.Logic.{⊎-map}
 use mathlib.Core.List.{List, [], _∷_, map}
 use mathlib.Core.Bool.{Bool, true, false, cond, _&&_, _||_, or-assoc, or-false}
-use Prim.Native.Nat.{ℕ, pred, _+_, _*_}
+use Prim.Native.Nat.{pred, _+_, _*_}
 use native.Mathlib.Omega.{arith}
 use borrow.Author.Tests.{eqb-true, eq-eqb}
 use lib.Dec.{eqb}
@@ -16,8 +16,7 @@ use Rattle.network.specs.Excess.{excess}
 use Rattle.network.specs.Corners.{samePoint, straightOn, cornersFrom, corners}
 use Rattle.network.proofs.Tests.{and-split, and-join, or-split, or-join}
 use Rattle.network.proofs.Edges.{OfGrid, edges-cong}
-use Rattle.network.proofs.Numbers.{Between, rise, fall}
-use Rattle.network.proofs.Monotone.{Towards, towards-trans, towards-first, Monotone, monotone, manhattan-of}
+use Rattle.network.proofs.Monotone.{towards-trans, towards-first, Monotone, monotone, manhattan-of}
 use Rattle.network.proofs.Counting.{counting}
 use Rattle.network.proofs.Joining.{On-line, lies-through, lies-nowhere}
 
@@ -161,30 +160,6 @@ corners-on g run (p ∷ q ∷ l) m e o =
 pub same-corners : (g : Grid) (run : Run) (p q : Route) → Manhattan g run p → Manhattan g run q → corners p ≡ corners q
     → (e : Edge) → OfGrid g e → on e p ≡ on e q
 same-corners g run p q m n s e o = sym (corners-on g run p m e o) ∙ ap (on e) s ∙ corners-on g run q n e o
-
--- a run whose points coincide has one corner, whatever its route
-still : {a b : ℕ} → Between a b a → b ≡ a
-still (rise h k) = omega arith
-still (fall h k) = omega arith
-
--- a walk that comes back to its first point has no corner after it
-no-corners : (p q : Point) (l : List Point) → p ≡ q → Monotone q l p → cornersFrom p q l ≡ []
-no-corners p q [] e m = ap (λ t. elim t as (λ u. List Point) [ true ↦ [] | false ↦ q ∷ [] ]) (true-point p q e)
-no-corners p q (r ∷ l) e m =
-    let t = subst (λ o. Towards o r p) (sym e) (m .0) in
-    let d : r ≡ p = λ i. record { x = still (t .in-x) i; y = still (t .in-y) i } in
-    corner-on p q r l (true-line p q r (inl (record { here = ap (λ (o : Point). o .x) e; there = ap (λ (o : Point). o .x) (sym e ∙ sym d) }))) ∙ no-corners p r l (sym d) (m .1)
-
--- so it has that corner alone
-pub corners-point : (g : Grid) (p : Point) (route : Route) → Manhattan g (p to p) route → corners route ≡ p ∷ []
-corners-point g p [] m = absurd (m .starts)
-corners-point g p (o ∷ []) m = ap (λ (q : Point). q ∷ []) (m .starts)
-corners-point g p (o ∷ q ∷ l) m =
-    let n = monotone o (q ∷ l) m in
-    let t = subst (λ s. Towards s q p) (m .starts) (n .0) in
-    let d : q ≡ p = λ i. record { x = still (t .in-x) i; y = still (t .in-y) i } in
-    ap₂ (λ (s : Point) k. s ∷ k) (m .starts)
-    (no-corners o q l (m .starts ∙ sym d) (subst (Monotone q l) (sym (m .starts)) (n .1)))
 
 -- ---- the corners of all routes
 

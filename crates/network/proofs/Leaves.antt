@@ -8,7 +8,8 @@ use lib.ListN.{length, length-append}
 use Rattle.network.specs.Lists.{All}
 use Rattle.network.specs.Plane.{Run}
 use Rattle.network.specs.Grid.{Rising, Grid}
-use Rattle.network.specs.Graph.{overlap, runAt, meets, below, IsCentre}
+use Rattle.network.specs.Graph.{overlap, runAt, meets, below}
+use Rattle.network.proofs.Centres.{IsCentre}
 use Rattle.network.specs.Apart.{Apart}
 use Rattle.network.proofs.Tests.{is-false}
 use Rattle.network.proofs.Lists.{each-member, member-each}

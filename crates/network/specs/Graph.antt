@@ -1,8 +1,7 @@
 -- The intersection graph and stars: "Two runs meet when some grid edge lies in both boxes. One common point is no meeting. A run never meets
 -- itself" (01, Lines, boxes, meeting; IG in 000, 2.3). Runs are named by their index in the job.
-use mathlib.Core.Path.{_≡_}
-use mathlib.Core.List.{List, [], _∷_, List·Memᴰ as Member}
-use mathlib.Core.Bool.{Bool, true, false, not, _&&_, _||_}
+use mathlib.Core.List.{List, [], _∷_}
+use mathlib.Core.Bool.{Bool, not, _&&_, _||_}
 use Prim.Native.Nat.{ℕ}
 use lib.Dec.{eqb}
 use lib.ListN.{getD}
@@ -41,12 +40,6 @@ unfoldable pub isCentre : (ℕ → ℕ → Bool) → List ℕ → ℕ → Bool
 isCentre joined group c =
     every (λ i. eqb i c || joined c i) group
     && every (λ i. every (λ j. eqb i c || eqb j c || not (joined i j)) group) group
-
--- the same as a statement, which the test decides (`centre-true`, `true-centre`): c is a member, joined to every other member, no two of which are joined
-pub record IsCentre (joined : ℕ → ℕ → Bool) (group : List ℕ) (c : ℕ) : Type 0 where
-  pub member : Member c group
-  pub joins : (i : ℕ) → Member i group → (i ≡ c → ⊥) → joined c i ≡ true
-  pub leaves : (i j : ℕ) → Member i group → Member j group → (i ≡ c → ⊥) → (j ≡ c → ⊥) → joined i j ≡ false
 
 -- The centres of a group, rising. The group is a star where there is one; the centre is the first, so of two vertices the lower.
 unfoldable pub centres : (ℕ → ℕ → Bool) → List ℕ → List ℕ

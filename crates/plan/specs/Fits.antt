@@ -2,17 +2,11 @@
 use Prim.Native.Nat.{_^_, _≤_, _<_}
 use Rattle.network.specs.Plane.{Point}
 use Rattle.plan.specs.declared.Head.{Head}
-use Rattle.plan.specs.Plan.{Entry}
 
 -- both coordinates lie in their range
 pub record PointIn (p : Point) : Type 0 where
   pub x-in : p .x ≤ 2000000
   pub y-in : p .y ≤ 2000000
-
--- a run's figures fit their fields
-pub record EntryFits (e : Entry) : Type 0 where
-  pub number-fits : e .number < 65536
-  pub meets-fits : e .meets < 65536
 
 -- a head's figures fit their fields
 pub record HeadFits (h : Head) : Type 0 where

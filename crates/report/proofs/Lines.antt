@@ -16,14 +16,14 @@ use Rattle.job.specs.declared.Run.{Run as Read}
 use Rattle.job.specs.Written.{WellFormed}
 use Rattle.plan.specs.Plan.{entriesFrom, meetsOf, drawnBytes, planBytes}
 use Rattle.plan.proofs.Length.{entries-all, entries-length}
-use Rattle.plan.specs.Fits.{EntryFits, PointIn}
+use Rattle.plan.specs.Fits.{PointIn}
 use Rattle.plan.proofs.Whole.{routes-few}
 use Rattle.planner.specs.Call.{runOf, runsOf, numbersOf, planOf}
 use Rattle.planner.specs.Figures.{planHead, planEntries}
 use Rattle.planner.proofs.Fits.{corners-in, head-fits, few-lines, number-bounded}
 use Rattle.text.specs.Text.{planText}
 use Rattle.text.specs.Listing.{listingOf}
-use Rattle.text.proofs.Plan.{plan-listing}
+use Rattle.text.proofs.Plan.{EntryFits, plan-listing}
 use Rattle.text.proofs.Length.{plan-text-most}
 
 -- entries fit their fields where the numbers and the meets figures do

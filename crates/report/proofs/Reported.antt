@@ -1,6 +1,6 @@
 -- The listing of a job is the text of the verdict: of the plan that stands in the plan buffer, or of the refusal that is answered. A text buffer of 74,421
 -- bytes has room for all of it, and the first 640 bytes of the job decide it.
-use mathlib.Core.Path.{_≡_, refl, sym, ap, _∙_}
+use mathlib.Core.Path.{_≡_, refl, ap, _∙_}
 use mathlib.Core.Logic.{_⊎_, inl, inr}
 use mathlib.Core.List.{List, [], _++_, append-nil}
 use Prim.Native.Nat.{ℕ, _≤_}

@@ -16,7 +16,8 @@ use Rattle.network.specs.Lists.{sum, count}
 use Rattle.network.specs.Plane.{Run}
 use Rattle.network.specs.Grid.{Grid, Edge, len}
 use Rattle.network.specs.Route.{Route, Routes, on}
-use Rattle.network.specs.Graph.{runAt, meets, below, IsCentre}
+use Rattle.network.specs.Graph.{runAt, meets, below}
+use Rattle.network.proofs.Centres.{IsCentre}
 use Rattle.network.specs.Excess.{excess}
 use Rattle.network.proofs.Tests.{and-split}
 use Rattle.network.proofs.Sums.{sum-cong, sum-add, sumTo, sumTo-one}

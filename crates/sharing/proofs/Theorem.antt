@@ -14,11 +14,11 @@ use borrow.Author.Tests.{eq-eqb, ne-eqb}
 use lib.ListN.{length}
 use Rattle.network.specs.Plane.{Run}
 use Rattle.network.specs.Route.{Route, Manhattan, Routes}
-use Rattle.network.specs.Graph.{runAt, meets, below, isCentre, IsCentre}
+use Rattle.network.specs.Graph.{runAt, meets, below, isCentre}
 use Rattle.network.specs.Excess.{excess}
 use Rattle.network.specs.Steps.{Dir, Lane, Frame, drawn}
 use Rattle.network.proofs.Meeting.{meets-true}
-use Rattle.network.proofs.Centres.{centre-true}
+use Rattle.network.proofs.Centres.{IsCentre, centre-true}
 use Rattle.network.proofs.Leaves.{member-below}
 use Rattle.network.proofs.Counting.{counting, least-of-most}
 use Rattle.sharing.specs.Box.{Box}

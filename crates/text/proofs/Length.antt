@@ -12,10 +12,11 @@ use Rattle.job.specs.Refusal.{refusalNumber, refusalPlace}
 use Rattle.plan.specs.declared.Head.{Head}
 use Rattle.plan.specs.Plan.{Entry, totalCorners}
 use Rattle.plan.proofs.Length.{total-few}
-use Rattle.plan.specs.Fits.{PointIn, EntryFits, HeadFits}
+use Rattle.plan.specs.Fits.{PointIn, HeadFits}
 use Rattle.text.specs.Numerals.{ascii}
 use Rattle.text.specs.Text.{headText, pointText, entryText, planText, refusalText}
 use Rattle.text.proofs.Numerals.{decimal-length}
+use Rattle.text.proofs.Plan.{EntryFits}
 use Rattle.text.proofs.Signed.{decimetres-length}
 
 -- the head, without its line feed

@@ -13,7 +13,7 @@ use Rattle.job.proofs.Fields.{word2-bytes, word4-bytes}
 use Rattle.plan.specs.declared.Head.{Head}
 use Rattle.plan.specs.Records.{headRecord, routeRecord, cornerRecord, endRecord}
 use Rattle.plan.specs.Plan.{Entry, entryBytes, totalCorners, bookBytes}
-use Rattle.plan.specs.Fits.{PointIn, EntryFits, HeadFits}
+use Rattle.plan.specs.Fits.{PointIn, HeadFits}
 use Rattle.text.specs.Numerals.{ascii}
 use Rattle.text.specs.Text.{headText, routeText, cornerText, pointText, entryText, planText}
 use Rattle.text.specs.Records.{whole, decoded, recordOf}
@@ -22,6 +22,11 @@ use Rattle.text.specs.declared.Record.{Record}
 use Rattle.text.specs.declared.Record.the-variants as rec
 use Rattle.text.proofs.Signed.{word-decimetres}
 use Rattle.text.proofs.Listing.{listing-step}
+
+-- a run's figures fit their fields
+pub record EntryFits (e : Entry) : Type 0 where
+  pub number-fits : e .number < 65536
+  pub meets-fits : e .meets < 65536
 
 -- ---- a written record is read back
 
