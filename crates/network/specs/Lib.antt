@@ -3,15 +3,17 @@ pub mod Lists
 pub mod Plane
 pub mod Grid
 pub mod Distinct
-pub mod DistinctRises
 pub mod Hanan
 pub mod Route
 pub mod Graph
-pub mod Entries
-pub mod Excess
-pub mod Steps
 pub mod Corners
 pub mod Pits
+-- checked, nothing to believe: that the lines of these grids rise
+pub mod DistinctRises
+pub mod Entries
+-- what the layers up to the planner are stated with, and no demand mentions
+pub mod Excess
+pub mod Steps
 pub mod Slopes
 pub mod Apart
 pub mod Boxes

@@ -1,4 +1,4 @@
--- The plan book of document 01.
+-- The plan book of document 01; `Writers` is what the writers' contracts speak of, and no demand.
 pub mod Bytes
 pub mod Records
 pub mod Plan
