@@ -15,6 +15,8 @@ use Rattle.network.specs.Route.{Route, unionLength, Least}
 use Rattle.network.specs.Corners.{corners}
 use Rattle.network.proofs.Corners.{corners-least}
 use Rattle.job.specs.declared.Run.{Run as Read}
+use Rattle.job.specs.declared.Refusal.{Refusal}
+use Rattle.job.specs.declared.Refusal.the-variants.{ShortWork, ShortPlan, Cut, UnknownKind, Misplaced, WrongCount, WrongNumber, OutOfRange, TooManyRuns, NoRuns, NoStar}
 use Rattle.job.specs.Refusal.{refusalNumber, refusalPlace}
 use Rattle.job.specs.Parse.{Parsed, accepted, refused, parse}
 use Rattle.job.specs.Written.{Bytes, WellFormed}
@@ -27,7 +29,7 @@ use Rattle.planner.specs.declared.Answer.{Answer}
 use Rattle.planner.specs.Verdict.{verdict}
 use Rattle.planner.specs.Call.{runsOf, numbersOf, planOf, Said, gives, refuses, said, codeOf, Plans, Words}
 use Rattle.planner.specs.Outcome.{Outcome, MapOutcome}
-use Rattle.planner.specs.Demands.{JobIn, Admitted, Leaves, LeastPlan, Demands, PlanDemands, MapDemands}
+use Rattle.planner.specs.Demands.{JobIn, Admitted, Applies, short-work, in-bytes, Leaves, LeastPlan, Demands, PlanDemands, MapDemands}
 use Rattle.planner.proofs.Fits.{corners-in, head-fits}
 use Rattle.planner.proofs.Verdicts.{no-plan, enough, lent-enough}
 use Rattle.planner.proofs.Stars.{judged-accepts, job-star, star-job, same-job}
@@ -153,6 +155,33 @@ map-demands job out code out′ b call =
         λ a. let (n, e) = d .demand-2 .1 a in (n, call .told ∙ ap codeOf e),
       );
     }
+
+-- 1 does not apply where 16,384 words are lent
+never-short : (job : List ℕ) (bytes : ℕ) (x : Refusal) → Applies job 16384 bytes x → refusalNumber x ≡ 1 → ⊥
+never-short job bytes ShortWork (short-work h) e = omega arith
+never-short job bytes ShortWork (in-bytes h) e = absurd h
+never-short job bytes ShortPlan a e = omega arith
+never-short job bytes (Cut p) a e = omega arith
+never-short job bytes (UnknownKind p) a e = omega arith
+never-short job bytes (Misplaced p) a e = omega arith
+never-short job bytes (WrongCount p) a e = omega arith
+never-short job bytes (WrongNumber p) a e = omega arith
+never-short job bytes (OutOfRange p) a e = omega arith
+never-short job bytes (TooManyRuns p) a e = omega arith
+never-short job bytes (NoRuns p) a e = omega arith
+never-short job bytes NoStar a e = omega arith
+
+-- The map screen is never told -1.
+pub never-minus-1 : (job out : List ℕ) (code : ℤ) (out′ : List ℕ) → MapDemands job out code out′ → code ≡ negℤ (pos 1) → ⊥
+never-minus-1 job out code out′ d e = go (d .says) (d .demands .demand-1) (sym (d .told) ∙ e)
+  where
+    one : (k : ℕ) → negℤ (pos k) ≡ negℤ (pos 1) → k ≡ 1
+    one zero q = let z : _≡_ {A = ℕ} 0 1 = cc in absurd (omega arith)
+    one (suc k) q = let z : k ≡ 0 = cc in omega arith
+
+    go : (s : Said) → Leaves job 16384 out s out′ → codeOf s ≡ negℤ (pos 1) → ⊥
+    go (gives n) l q = let z : _≡_ {A = ℕ} 0 1 = cc in omega arith
+    go (refuses number place) l q = never-short job (length out) (l .0 .refusal) (l .0 .first .applies) (sym (l .0 .number-is) ∙ one number q)
 
 -- Two plans of one job have the same trench and the same saved figure; their meets figures are the job's.
 pub same-figures : (number : ℕ) (runs : List Read) (routes others : List Route) → Least (hanan (runsOf runs)) (runsOf runs) routes
