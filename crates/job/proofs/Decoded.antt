@@ -1,6 +1,6 @@
 -- What a decoded record says of its bytes.
 -- Assumes nothing.
-use Prim.Native.Nat.{ℕ, _-_, _<_, _≤_}
+use Prim.Native.Nat.{ℕ, _+_, _-_, _<_, _≤_}
 use mathlib.Core.Path.{_≡_, refl}
 use mathlib.Core.List.{List, [], _∷_}
 use mathlib.Core.Bool.{Bool, true, false, cond}
@@ -14,7 +14,7 @@ use Rattle.job.proofs.Record.{the-type}
 use Rattle.job.specs.declared.Record.{Record}
 use Rattle.job.specs.declared.Record.the-variants as rec
 use Rattle.job.specs.Fields.{word2, word4}
-use Rattle.job.specs.Applies.{Kind, head, run, end, byteOf, sizeOf, CutAt, inside, before-end, UnknownAt}
+use Rattle.job.specs.Applies.{Kind, head, run, end, byteOf, sizeOf, Starts}
 use Rattle.job.specs.Records.{runBody, decoded, recordOf}
 use Rattle.job.specs.Branches.{NotRun, NotHead}
 
@@ -22,6 +22,16 @@ use Rattle.job.specs.Branches.{NotRun, NotHead}
 pub by-test : {A : Type 0} (P : A → Type 0) (b : Bool) {x y : A} → (b ≡ true → P x) → (b ≡ false → P y) → P (cond b x y)
 by-test P true f g = f refl
 by-test P false f g = g refl
+
+-- the bytes end inside a record at the place, or before it
+pub data CutAt (s : List ℕ) (p : ℕ) : Type 0 where
+  inside : (k : Kind) → Starts k s p → length s < p + sizeOf k → CutAt s p
+  before-end : p ≡ length s → CutAt s p
+
+-- the kind at the place is none
+pub record UnknownAt (s : List ℕ) (p : ℕ) : Type 0 where
+  pub within : p < length s
+  pub none : (k : Kind) → getD s p 0 ≡ byteOf k → ⊥
 
 -- what a record says of the bytes that it was decoded from: a whole one, that its body is long enough and the fields are where they are
 abbrev pub Says : List ℕ → Record → Type 0

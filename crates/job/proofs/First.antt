@@ -16,10 +16,11 @@ use Rattle.job.specs.declared.Refusal.the-variants.{ShortWork, ShortPlan
 use Rattle.job.specs.declared.Step.{Step}
 use Rattle.job.specs.declared.Step.the-variants.{Next, End, Refuse}
 use Rattle.job.specs.Refusal.{refusalPlace}
-use Rattle.job.specs.Applies.{Kind, head, run, end, byteOf, Whole, Behind, no-head, AppliesIn}
+use Rattle.job.specs.Applies.{Kind, head, run, end, byteOf, Whole, Behind, AppliesIn, cut-inside, cut-before-end, unknown-kind, no-head, second-head, after-end, wrong-count, number-zero, number-above, not-rising, out-of-range, run-33, no-runs}
 use Rattle.job.specs.Order.{turnOf, Sooner, by-stage, by-place, by-turn, FirstOf}
 use Rattle.job.specs.Records.{recordOf}
 use Rattle.job.specs.Parse.{Parsed, accepted, refused, stepOf, withFirst, proceed, readFrom, firstBy, parse}
+use Rattle.job.proofs.Decoded.{CutAt, inside, before-end, UnknownAt}
 use Rattle.job.proofs.There.{There, there, behind-within}
 use Rattle.job.proofs.Located.{one-stage, Passed}
 use Rattle.job.proofs.Turns.{Told, Sorted, unknown, cut, rest, least-four, least-three, least-five, step-told}
@@ -63,17 +64,19 @@ not-first s n p b e = absurd (omega (arith, b .at))
 
 -- what applies at 0, by its turn
 at-first : (s : List ℕ) (x : Refusal) → AppliesIn s x → refusalPlace x ≡ 0 → Sorted s 0 x
-at-first s ShortWork a e = absurd a
-at-first s ShortPlan a e = absurd a
-at-first s (Cut p) (b, c) e = cut refl (rw e at c)
-at-first s (UnknownKind p) (b, c) e = unknown refl (rw e at c)
-at-first s (Misplaced p) a e = rest (omega arith)
-at-first s (WrongCount p) (n, b, w, d) e = not-first s n p b e
-at-first s (WrongNumber p) (n, b, w, d) e = not-first s n p b e
-at-first s (OutOfRange p) (n, b, w, d) e = not-first s n p b e
-at-first s (TooManyRuns p) (b, w) e = not-first s 32 p b e
-at-first s (NoRuns p) (b, w) e = not-first s 0 p b e
-at-first s NoStar a e = absurd a
+at-first s x (cut-inside k b h l) e = cut refl (rw e at (inside k h l))
+at-first s x (cut-before-end b) e = cut refl (before-end (sym e))
+at-first s x (unknown-kind {p} b l f) e = let u : UnknownAt s p = record { within = l; none = f } in unknown refl (rw e at u)
+at-first s x (no-head l f) e = rest (omega arith)
+at-first s x (second-head b h) e = rest (omega arith)
+at-first s x (after-end b h l) e = rest (omega arith)
+at-first s x (wrong-count b h d) e = not-first s _ _ b e
+at-first s x (number-zero b h d) e = not-first s _ _ b e
+at-first s x (number-above b h l) e = not-first s _ _ b e
+at-first s x (not-rising b h l) e = not-first s _ _ b e
+at-first s x (out-of-range i b h l f) e = not-first s _ _ b e
+at-first s x (run-33 b h) e = not-first s _ _ b e
+at-first s x (no-runs b h) e = not-first s _ _ b e
 
 module _ (s : List ℕ) where
   -- what applies at 0 is the first, if nothing else that applies there has an earlier turn
@@ -88,7 +91,7 @@ module _ (s : List ℕ) where
   -- a whole record of another kind than a head
   other-first : (k : Kind) → (byteOf k ≡ byteOf head → ⊥) → Whole k s 0 → FirstOf (AppliesIn s) (Misplaced 0)
   other-first k f w =
-      first-first (Misplaced 0) refl (no-head refl (w .starts .within) (λ e. f (sym (w .starts .kind) ∙ e)))
+      first-first (Misplaced 0) refl (no-head (w .starts .within) (λ e. f (sym (w .starts .kind) ∙ e)))
       (least-five s 0 k w)
 
   -- behind the head, before any run
@@ -101,11 +104,16 @@ module _ (s : List ℕ) where
         right = λ i l. absurd (omega arith);
       }
 
+  -- a first record that is cut
+  cut-first : CutAt s 0 → AppliesIn s (Cut 0)
+  cut-first (inside k h l) = cut-inside k (inl refl) h l
+  cut-first (before-end e) = rw e (cut-before-end (inl (sym e)))
+
   -- the reading by the first record
   first-said : (g : Record) → There s 0 g → Said s (firstBy g (drop 5 s))
   unfolding firstBy
-  first-said rec.Unknown u = first-first (UnknownKind 0) refl (inl refl, u) (least-four s 0)
-  first-said rec.Cut c = first-first (Cut 0) refl (inl refl, c) (least-three s 0 c)
+  first-said rec.Unknown u = first-first (UnknownKind 0) refl (unknown-kind (inl refl) (u .within) (u .none)) (least-four s 0)
+  first-said rec.Cut c = first-first (Cut 0) refl (cut-first c) (least-three s 0 c)
   first-said (rec.Head number) w = read-said 33 s number 0 5 0 refl (passed-none w)
   first-said (rec.Run r) (w, e) = other-first run (λ d. omega arith) w
   first-said (rec.End count) (w, e) = other-first end (λ d. omega arith) w

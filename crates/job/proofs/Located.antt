@@ -11,12 +11,25 @@ use lib.ListN.{length, getD}
 use Rattle.job.specs.declared.Refusal.{Refusal}
 use Rattle.job.specs.declared.Refusal.the-variants.{ShortWork, ShortPlan, Cut, UnknownKind, Misplaced, WrongCount, WrongNumber, OutOfRange, TooManyRuns, NoRuns, NoStar}
 use Rattle.job.specs.Refusal.{refusalPlace}
-use Rattle.job.specs.Applies.{head, run, end, Starts, Whole, place, Behind, numberAt, countAt, CutAt, UnknownAt, no-head, second-head, after-end, WrongNumberAt, OutOfRangeAt, AppliesIn}
+use Rattle.job.specs.Applies.{head, run, end, Starts, Whole, place, Behind, numberAt, coordinateAt, AppliesIn, cut-inside, cut-before-end, unknown-kind, no-head, second-head, after-end, wrong-count, number-zero, number-above, not-rising, out-of-range, run-33, no-runs}
 use Rattle.job.specs.Order.{stageOf, turnOf, Sooner, by-stage, by-place, by-turn, FirstOf}
+use Rattle.job.proofs.Decoded.{CutAt, inside, before-end, UnknownAt}
 use Rattle.job.proofs.There.{whole-uncut, whole-known}
 use Rattle.job.proofs.Order.{either-way}
 
 -- ---- what is wrong with a record
+
+-- the number of the run at p, behind n runs, is wrong
+pub data WrongNumberAt (s : List ℕ) (n p : ℕ) : Type 0 where
+  is-zero : numberAt s p ≡ 0 → WrongNumberAt s n p
+  above : 9999 < numberAt s p → WrongNumberAt s n p
+  not-above : (m : ℕ) → n ≡ suc m → numberAt s p ≤ numberAt s (place m) → WrongNumberAt s n p
+
+-- one of its coordinates is
+pub record OutOfRangeAt (s : List ℕ) (p : ℕ) : Type 0 where
+  pub which : ℕ
+  pub one : which < 4
+  pub far : 2000000 < coordinateAt s p which
 
 -- what a refusal says of the record at p, behind n runs
 abbrev pub Here : List ℕ → (n p : ℕ) → Refusal → Type 0
@@ -25,26 +38,38 @@ Here s n p ShortPlan = ⊥
 Here s n p (Cut q) = CutAt s p
 Here s n p (UnknownKind q) = UnknownAt s p
 Here s n p (Misplaced q) = Starts head s p
-Here s n p (WrongCount q) = Whole end s p × (countAt s p ≡ n → ⊥)
+Here s n p (WrongCount q) = Whole end s p × (numberAt s p ≡ n → ⊥)
 Here s n p (WrongNumber q) = Whole run s p × WrongNumberAt s n p
 Here s n p (OutOfRange q) = Whole run s p × OutOfRangeAt s p
 Here s n p (TooManyRuns q) = (n ≡ 32) × Starts run s p
 Here s n p (NoRuns q) = (n ≡ 0) × Starts end s p
 Here s n p NoStar = ⊥
 
--- what is wrong with a record that begins is a refusal that applies at its place
-applies-here : (s : List ℕ) (n p : ℕ) → Behind s n p → (x : Refusal) → p ≡ refusalPlace x → Here s n p x → AppliesIn s x
-applies-here s n p b ShortWork e h = absurd h
-applies-here s n p b ShortPlan e h = absurd h
-applies-here s n p b (Cut q) e h = rw (← e) (inr (n, b), h)
-applies-here s n p b (UnknownKind q) e h = rw (← e) (inr (n, b), h)
-applies-here s n p b (Misplaced q) e h = rw (← e) (second-head n b h)
-applies-here s n p b (WrongCount q) e h = rw (← e) (n, b, h .0, h .1)
-applies-here s n p b (WrongNumber q) e h = rw (← e) (n, b, h .0, h .1)
-applies-here s n p b (OutOfRange q) e h = rw (← e) (n, b, h .0, h .1)
-applies-here s n p b (TooManyRuns q) e h = rw (← e) (rw (h .0) at b, h .1)
-applies-here s n p b (NoRuns q) e h = rw (← e) (rw (h .0) at b, h .1)
-applies-here s n p b NoStar e h = absurd h
+module _ (s : List ℕ) (n p : ℕ) (b : Behind s n p) where
+  -- a record that is cut behind the head and n runs is refused with 3
+  cut-applies : CutAt s p → AppliesIn s (Cut p)
+  cut-applies (inside k h l) = cut-inside k (inr (n, b)) h l
+  cut-applies (before-end e) = rw e (cut-before-end (inr (n, rw e at b)))
+
+  -- a run with a wrong number there with 7
+  number-applies : Whole run s p → WrongNumberAt s n p → AppliesIn s (WrongNumber p)
+  number-applies w (is-zero e) = number-zero b w e
+  number-applies w (above l) = number-above b w l
+  number-applies w (not-above m e l) = not-rising (rw e at b) w l
+
+  -- what is wrong with a record that begins is a refusal that applies at its place
+  applies-here : (x : Refusal) → p ≡ refusalPlace x → Here s n p x → AppliesIn s x
+  applies-here ShortWork e h = absurd h
+  applies-here ShortPlan e h = absurd h
+  applies-here (Cut q) e h = rw (← e) (cut-applies h)
+  applies-here (UnknownKind q) e h = rw (← e) (unknown-kind (inr (n, b)) (h .within) (h .none))
+  applies-here (Misplaced q) e h = rw (← e) (second-head b h)
+  applies-here (WrongCount q) e h = rw (← e) (wrong-count b (h .0) (h .1))
+  applies-here (WrongNumber q) e h = rw (← e) (number-applies (h .0) (h .1))
+  applies-here (OutOfRange q) e h = rw (← e) (out-of-range (h .1 .which) b (h .0) (h .1 .one) (h .1 .far))
+  applies-here (TooManyRuns q) e h = rw (← e) (run-33 (rw (h .0) at b) (h .1))
+  applies-here (NoRuns q) e h = rw (← e) (no-runs (rw (h .0) at b) (h .1))
+  applies-here NoStar e h = absurd h
 
 -- what applies where a head stands first: a record behind it is wrong, or a byte stands behind the end
 data Found (s : List ℕ) (x : Refusal) : Type 0 where
@@ -53,35 +78,38 @@ data Found (s : List ℕ) (x : Refusal) : Type 0 where
 
 -- every refusal that applies is one of the two
 found : (s : List ℕ) → Whole head s 0 → (x : Refusal) → AppliesIn s x → Found s x
-found s w ShortWork a = absurd a
-found s w ShortPlan a = absurd a
-found s w (Cut p) (inl e, c) = absurd (whole-uncut head s 0 w (rw e at c))
-found s w (Cut p) (inr (n, b), c) = nth n p b refl c
-found s w (UnknownKind p) (inl e, c) = absurd (whole-known head s 0 w (rw e at c))
-found s w (UnknownKind p) (inr (n, b), c) = nth n p b refl c
-found s w (Misplaced p) (no-head e l h) = absurd (h (ap (λ (i : ℕ). getD s i 0) e ∙ w .starts .kind))
-found s w (Misplaced p) (second-head n b h) = nth n p b refl h
-found s w (Misplaced p) (after-end n q b e at l) = after n q b e (ap Misplaced at) (rw at at l)
-found s w (WrongCount p) (n, b, h, d) = nth n p b refl (h, d)
-found s w (WrongNumber p) (n, b, h, d) = nth n p b refl (h, d)
-found s w (OutOfRange p) (n, b, h, d) = nth n p b refl (h, d)
-found s w (TooManyRuns p) (b, h) = nth 32 p b refl (refl, h)
-found s w (NoRuns p) (b, h) = nth 0 p b refl (refl, h)
-found s w NoStar a = absurd a
+found s w x (cut-inside k (inl e) h l) = absurd (whole-uncut head s 0 w (rw e at (inside k h l)))
+found s w x (cut-inside k (inr (n, b)) h l) = nth n _ b refl (inside k h l)
+found s w x (cut-before-end (inl e)) = absurd (omega (arith, w .ends))
+found s w x (cut-before-end (inr (n, b))) = nth n _ b refl (before-end refl)
+found s w x (unknown-kind (inl e) l f) = absurd (f head (ap (λ (i : ℕ). getD s i 0) e ∙ w .starts .kind))
+found s w x (unknown-kind (inr (n, b)) l f) = nth n _ b refl (record { within = l; none = f })
+found s w x (no-head l f) = absurd (f (w .starts .kind))
+found s w x (second-head b h) = nth _ _ b refl h
+found s w x (after-end b h l) = after _ _ b h refl l
+found s w x (wrong-count b h d) = nth _ _ b refl (h, d)
+found s w x (number-zero b h e) = nth _ _ b refl (h, is-zero e)
+found s w x (number-above b h l) = nth _ _ b refl (h, above l)
+found s w x (not-rising b h l) = nth _ _ b refl (h, not-above _ refl l)
+found s w x (out-of-range i b h l f) = nth _ _ b refl (h, record { which = i; one = l; far = f })
+found s w x (run-33 b h) = nth 32 _ b refl (refl, h)
+found s w x (no-runs b h) = nth 0 _ b refl (refl, h)
 
 -- all refusals of the bytes are of one stage
 pub one-stage : (s : List ℕ) (x : Refusal) → AppliesIn s x → stageOf x ≡ stageOf (Cut 0)
-one-stage s ShortWork a = absurd a
-one-stage s ShortPlan a = absurd a
-one-stage s (Cut p) a = refl
-one-stage s (UnknownKind p) a = refl
-one-stage s (Misplaced p) a = refl
-one-stage s (WrongCount p) a = refl
-one-stage s (WrongNumber p) a = refl
-one-stage s (OutOfRange p) a = refl
-one-stage s (TooManyRuns p) a = refl
-one-stage s (NoRuns p) a = refl
-one-stage s NoStar a = absurd a
+one-stage s x (cut-inside k b h l) = refl
+one-stage s x (cut-before-end b) = refl
+one-stage s x (unknown-kind b l f) = refl
+one-stage s x (no-head l f) = refl
+one-stage s x (second-head b h) = refl
+one-stage s x (after-end b h l) = refl
+one-stage s x (wrong-count b h d) = refl
+one-stage s x (number-zero b h e) = refl
+one-stage s x (number-above b h l) = refl
+one-stage s x (not-rising b h l) = refl
+one-stage s x (out-of-range i b h l f) = refl
+one-stage s x (run-33 b h) = refl
+one-stage s x (no-runs b h) = refl
 
 -- ---- the runs before a record are right
 

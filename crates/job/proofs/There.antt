@@ -12,9 +12,9 @@ use Rattle.job.specs.declared.Run.{Run}
 use Rattle.job.specs.declared.Record.{Record}
 use Rattle.job.specs.declared.Record.the-variants as rec
 use Rattle.job.specs.Fields.{word2, word4, biasedOf}
-use Rattle.job.specs.Applies.{Kind, head, run, end, byteOf, sizeOf, Whole, Behind, numberAt, countAt, coordinateAt, CutAt, inside, before-end, UnknownAt}
+use Rattle.job.specs.Applies.{Kind, head, run, end, byteOf, sizeOf, Whole, Behind, numberAt, coordinateAt}
 use Rattle.job.specs.Records.{runBody, recordOf}
-use Rattle.job.proofs.Decoded.{Says, record-says}
+use Rattle.job.proofs.Decoded.{CutAt, inside, before-end, UnknownAt, Says, record-says}
 
 -- the run whose record stands at a place
 abbrev pub runAt : List ℕ → ℕ → Run
@@ -33,7 +33,7 @@ There s p rec.Unknown = UnknownAt s p
 There s p rec.Cut = CutAt s p
 There s p (rec.Head number) = Whole head s p
 There s p (rec.Run r) = Whole run s p × (r ≡ runAt s p)
-There s p (rec.End count) = Whole end s p × (count ≡ countAt s p)
+There s p (rec.End count) = Whole end s p × (count ≡ numberAt s p)
 
 module _ (s : List ℕ) (p : ℕ) where
   -- the byte at the place

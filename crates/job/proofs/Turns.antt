@@ -16,13 +16,13 @@ use Rattle.job.specs.declared.Refusal.{Refusal}
 use Rattle.job.specs.declared.Refusal.the-variants.{ShortWork, ShortPlan, Cut, UnknownKind, Misplaced, WrongCount, WrongNumber, OutOfRange, TooManyRuns, NoRuns, NoStar}
 use Rattle.job.specs.declared.Step.{Step}
 use Rattle.job.specs.declared.Step.the-variants.{Next, End, Refuse}
-use Rattle.job.specs.Applies.{Kind, head, run, end, Whole, place, numberAt, countAt, coordinateAt, CutAt, UnknownAt, after-end, WrongNumberAt, zero as number-zero, above, not-rising, OutOfRangeAt, AppliesIn}
+use Rattle.job.specs.Applies.{Kind, head, run, end, Whole, place, numberAt, coordinateAt, AppliesIn, after-end}
 use Rattle.job.specs.Order.{turnOf, Sooner, FirstOf}
 use Rattle.job.specs.Parse.{follows, coordinatesIn, runStep, endStep, stepBy}
-use Rattle.job.proofs.Decoded.{by-test}
+use Rattle.job.proofs.Decoded.{by-test, CutAt, UnknownAt}
 use Rattle.job.proofs.Steps.{Follows, follows-true, Coordinates, coordinates-true}
 use Rattle.job.proofs.There.{runAt, There, whole-uncut, whole-known, cut-known}
-use Rattle.job.proofs.Located.{Here, lastNumber, Right, Passed, Located, here, later, behind, run-head, run-end, locate, first-here}
+use Rattle.job.proofs.Located.{WrongNumberAt, is-zero, above, not-above, OutOfRangeAt, Here, lastNumber, Right, Passed, Located, here, later, behind, run-head, run-end, locate, first-here}
 use Rattle.job.proofs.Order.{either-way, sooner-self}
 
 -- ---- the tests of a run
@@ -35,21 +35,21 @@ not-both false b e = inl refl
 module _ (s : List ℕ) (n p last : ℕ) (is-last : last ≡ lastNumber s n) where
   -- a number that passes the test is right
   number-right : Follows last (numberAt s p) → WrongNumberAt s n p → ⊥
-  number-right f (number-zero e) = omega (arith, f .least)
+  number-right f (is-zero e) = omega (arith, f .least)
   number-right f (above g) = omega (arith, f .most)
-  number-right f (not-rising k e g) = omega (arith, f .rises, is-last ∙ ap (lastNumber s) e)
+  number-right f (not-above k e g) = omega (arith, f .rises, is-last ∙ ap (lastNumber s) e)
 
   -- a number that is not above the last is 0 or not above the one before
   not-above-last : (m : ℕ) → last ≡ lastNumber s m → n ≡ m → numberAt s p ≤ last → WrongNumberAt s n p
-  not-above-last zero e k l = number-zero (omega (arith, e))
-  not-above-last (suc m) e k l = not-rising m k (omega (arith, e))
+  not-above-last zero e k l = is-zero (omega (arith, e))
+  not-above-last (suc m) e k l = not-above m k (omega (arith, e))
 
   -- a number that does not pass it is wrong
   number-wrong : follows last (numberAt s p) ≡ false → WrongNumberAt s n p
   number-wrong t = go (not-both (leb 1 (numberAt s p) && leb (numberAt s p) 9999) (ltb last (numberAt s p)) t)
     where
       low : (leb 1 (numberAt s p) ≡ false) ⊎ (leb (numberAt s p) 9999 ≡ false) → WrongNumberAt s n p
-      low (inl e) = number-zero (omega (arith, leb-false 1 (numberAt s p) e))
+      low (inl e) = is-zero (omega (arith, leb-false 1 (numberAt s p) e))
       low (inr e) = above (leb-false _ _ e)
 
       go : (leb 1 (numberAt s p) && leb (numberAt s p) 9999 ≡ false) ⊎ (ltb last (numberAt s p) ≡ false) → WrongNumberAt s n p
@@ -144,7 +144,7 @@ data RunFault (s : List ℕ) (n p : ℕ) (x : Refusal) : Type 0 where
   ranging : turnOf x ≡ turnOf (OutOfRange p) → RunFault s n p x
 
 data EndFault (s : List ℕ) (n p : ℕ) (x : Refusal) : Type 0 where
-  miscounted : turnOf x ≡ turnOf (WrongCount p) → (countAt s p ≡ n → ⊥) → EndFault s n p x
+  miscounted : turnOf x ≡ turnOf (WrongCount p) → (numberAt s p ≡ n → ⊥) → EndFault s n p x
   empty : turnOf x ≡ turnOf (NoRuns p) → n ≡ 0 → EndFault s n p x
 
 module _ (s : List ℕ) (n p last : ℕ) (h : Passed s n p last) where
@@ -200,7 +200,7 @@ module _ (s : List ℕ) (n p last : ℕ) (h : Passed s n p last) where
   least-six y (empty t e) = omega arith
 
   -- then 10
-  least-ten : countAt s p ≡ n → (y : Refusal) → EndFault s n p y → turnOf (NoRuns p) ≤ turnOf y
+  least-ten : numberAt s p ≡ n → (y : Refusal) → EndFault s n p y → turnOf (NoRuns p) ≤ turnOf y
   least-ten c y (miscounted t e) = absurd (e c)
   least-ten c y (empty t e) = omega arith
 
@@ -238,7 +238,7 @@ module _ (s : List ℕ) (n p last : ℕ) (h : Passed s n p last) where
       (λ c. passed-more w (leb-false _ _ a) f (range-right s p (coordinates-true (runAt s p) (not-false _ c))))))
 
   -- an end with which nothing is wrong: whatever applies is the byte behind it
-  only-behind : Whole end s p → countAt s p ≡ n → 1 ≤ n → (x : Refusal) → AppliesIn s x → (x ≡ Misplaced (p + 3)) × (p + 3 < length s)
+  only-behind : Whole end s p → numberAt s p ≡ n → 1 ≤ n → (x : Refusal) → AppliesIn s x → (x ≡ Misplaced (p + 3)) × (p + 3 < length s)
   only-behind w c l x a = go (locate s n p last h x a)
     where
       wrong : EndFault s n p x → ⊥
@@ -251,20 +251,20 @@ module _ (s : List ℕ) (n p last : ℕ) (h : Passed s n p last) where
       go (behind e r f) = (e, f)
 
   -- an end
-  end-told : Whole end s p → Told s n p (endStep p n (countAt s p) (drop p s))
+  end-told : Whole end s p → Told s n p (endStep p n (numberAt s p) (drop p s))
   unfolding endStep
   end-told w =
-      by-test (Told s n p) (not (eqb (countAt s p) n))
+      by-test (Told s n p) (not (eqb (numberAt s p) n))
       (λ t. first-here s n p last h (WrongCount p) refl (w, eqb-false _ _ (not-true _ t)) (λ y d. least-six y (end-fault w y d)))
       (λ a.
-      let c = eqb-true (countAt s p) n (not-false _ a) in
+      let c = eqb-true (numberAt s p) n (not-false _ a) in
       by-test (Told s n p) (eqb n 0)
       (λ t. first-here s n p last h (NoRuns p) refl (eqb-true n 0 t, w .starts) (λ y d. least-ten c y (end-fault w y d)))
       (λ b.
       let some : 1 ≤ n = (let z = eqb-false n 0 b in omega (arith, z)) in
       by-test (Told s n p) (ltb 3 (length (drop p s)))
       (λ t. record {
-        applies = after-end n p (h .behind) w refl (omega (arith, ltb-true 3 (length (drop p s)) t, length-drop p s));
+        applies = after-end (h .behind) w (omega (arith, ltb-true 3 (length (drop p s)) t, length-drop p s));
         first = λ y g q. sooner-self (Misplaced (p + 3)) (subst (λ (z : Refusal). Sooner z (Misplaced (p + 3))) (only-behind w c some y g .0) q);
       })
       (λ t x g. omega (arith, only-behind w c some x g .1, ltb-false 3 (length (drop p s)) t, length-drop p s))))

@@ -6,9 +6,8 @@ use mathlib.Core.List.{List}
 use native.Mathlib.Omega.{arith}
 use lib.ListN.{length}
 use Rattle.job.specs.declared.Refusal.{Refusal}
-use Rattle.job.specs.declared.Refusal.the-variants.{ShortWork, ShortPlan, Cut, UnknownKind, Misplaced, WrongCount, WrongNumber, OutOfRange, TooManyRuns, NoRuns, NoStar}
 use Rattle.job.specs.Refusal.{refusalPlace}
-use Rattle.job.specs.Applies.{Begins, no-head, second-head, after-end, AppliesIn}
+use Rattle.job.specs.Applies.{Begins, AppliesIn, cut-inside, cut-before-end, unknown-kind, no-head, second-head, after-end, wrong-count, number-zero, number-above, not-rising, out-of-range, run-33, no-runs}
 use Rattle.job.proofs.There.{behind-within}
 
 -- a record begins among the bytes, or behind the last
@@ -18,16 +17,16 @@ begins-within s p (inr (n, b)) = behind-within s n p b
 
 -- so does what applies
 pub applies-within : (s : List ℕ) (x : Refusal) → AppliesIn s x → refusalPlace x ≤ length s
-applies-within s ShortWork h = absurd h
-applies-within s ShortPlan h = absurd h
-applies-within s (Cut p) h = begins-within s p (h .0)
-applies-within s (UnknownKind p) h = begins-within s p (h .0)
-applies-within s (Misplaced p) (no-head e l k) = omega arith
-applies-within s (Misplaced p) (second-head n b k) = behind-within s n p b
-applies-within s (Misplaced p) (after-end n q b w e l) = omega arith
-applies-within s (WrongCount p) h = behind-within s (h .0) p (h .1)
-applies-within s (WrongNumber p) h = behind-within s (h .0) p (h .1)
-applies-within s (OutOfRange p) h = behind-within s (h .0) p (h .1)
-applies-within s (TooManyRuns p) h = behind-within s 32 p (h .0)
-applies-within s (NoRuns p) h = behind-within s 0 p (h .0)
-applies-within s NoStar h = absurd h
+applies-within s x (cut-inside k b h l) = begins-within s _ b
+applies-within s x (cut-before-end b) = begins-within s _ b
+applies-within s x (unknown-kind b l f) = begins-within s _ b
+applies-within s x (no-head l f) = omega arith
+applies-within s x (second-head b h) = behind-within s _ _ b
+applies-within s x (after-end b h l) = omega arith
+applies-within s x (wrong-count b h d) = behind-within s _ _ b
+applies-within s x (number-zero b h e) = behind-within s _ _ b
+applies-within s x (number-above b h l) = behind-within s _ _ b
+applies-within s x (not-rising b h l) = behind-within s _ _ b
+applies-within s x (out-of-range i b h l f) = behind-within s _ _ b
+applies-within s x (run-33 b h) = behind-within s _ _ b
+applies-within s x (no-runs b h) = behind-within s _ _ b

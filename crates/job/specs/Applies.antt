@@ -9,24 +9,18 @@ use mathlib.Core.List.{List}
 use lib.ListN.{length, getD}
 use Rattle.job.specs.Fields.{word2, word4, biasedOf}
 use Rattle.job.specs.declared.Refusal.{Refusal}
-use Rattle.job.specs.declared.Refusal.the-variants.{ShortWork, ShortPlan, Cut, UnknownKind, Misplaced, WrongCount, WrongNumber, OutOfRange, TooManyRuns, NoRuns, NoStar}
+use Rattle.job.specs.declared.Refusal.the-variants.{Cut, UnknownKind, Misplaced, WrongCount, WrongNumber, OutOfRange, TooManyRuns, NoRuns}
 
 -- "Each record is one byte of kind, then a body whose length the kind fixes": the kinds, their bytes, and how many bytes a record has, the
 -- kind byte among them.
 pub data Kind : Type 0 where
-  head : Kind
-  run : Kind
-  end : Kind
+  head run end : Kind
 
 abbrev pub byteOf : Kind → ℕ
-byteOf head = 0x48
-byteOf run = 0x52
-byteOf end = 0x5A
+byteOf = elim [ head ↦ 0x48 | run ↦ 0x52 | end ↦ 0x5A ]
 
 abbrev pub sizeOf : Kind → ℕ
-sizeOf head = 5
-sizeOf run = 19
-sizeOf end = 3
+sizeOf = elim [ head ↦ 5 | run ↦ 19 | end ↦ 3 ]
 
 -- a record of the kind starts at the place: its kind byte stands there
 pub record Starts (k : Kind) (s : List ℕ) (p : ℕ) : Type 0 where
@@ -52,56 +46,34 @@ pub record Behind (s : List ℕ) (n p : ℕ) : Type 0 where
 abbrev pub Begins : List ℕ → ℕ → Type 0
 Begins s p = (p ≡ 0) ⊎ ((n : ℕ) × Behind s n p)
 
--- run: "run number, 2 bytes; then first x, first y, second x, second y, 4 bytes each"; end: "number of run records, 2 bytes". Coordinate i, from 0,
--- is biased (see `Fields`).
+-- the number in the first two bytes of a body: a run's "run number", an end's "number of run records"
 abbrev pub numberAt : List ℕ → ℕ → ℕ
 numberAt s p = word2 s (p + 1)
 
-abbrev pub countAt : List ℕ → ℕ → ℕ
-countAt s p = word2 s (p + 1)
-
+-- behind a run's number "first x, first y, second x, second y, 4 bytes each": coordinate i, from 0, biased (see `Fields`)
 abbrev pub coordinateAt : List ℕ → ℕ → ℕ → ℕ
 coordinateAt s p i = biasedOf (word4 s (p + 3 + 4 * i))
 
--- 3: "the bytes end inside a record, or before an end record (then the place is the length)"
-pub data CutAt (s : List ℕ) (p : ℕ) : Type 0 where
-  inside : (k : Kind) → Starts k s p → length s < p + sizeOf k → CutAt s p
-  before-end : p ≡ length s → CutAt s p
-
--- 4: "unknown kind"
-pub record UnknownAt (s : List ℕ) (p : ℕ) : Type 0 where
-  pub within : p < length s
-  pub none : (k : Kind) → getD s p 0 ≡ byteOf k → ⊥
-
--- 5: "first record no head, a second head, or a byte after the end record (that byte's place; it isn't read further)"
-pub data MisplacedAt (s : List ℕ) (p : ℕ) : Type 0 where
-  no-head : p ≡ 0 → p < length s → (getD s p 0 ≡ byteOf head → ⊥) → MisplacedAt s p
-  second-head : (n : ℕ) → Behind s n p → Starts head s p → MisplacedAt s p
-  after-end : (n q : ℕ) → Behind s n q → Whole end s q → p ≡ q + sizeOf end → p < length s → MisplacedAt s p
-
--- 7: "run number 0, above 9,999 or not above the one before", in the run behind n runs
-pub data WrongNumberAt (s : List ℕ) (n p : ℕ) : Type 0 where
-  zero : numberAt s p ≡ 0 → WrongNumberAt s n p
-  above : 9999 < numberAt s p → WrongNumberAt s n p
-  not-rising : (m : ℕ) → n ≡ suc m → numberAt s p ≤ numberAt s (place m) → WrongNumberAt s n p
-
--- 8: "coordinate outside its range", one of the four
-pub record OutOfRangeAt (s : List ℕ) (p : ℕ) : Type 0 where
-  pub which : ℕ
-  pub one : which < 4
-  pub far : 2000000 < coordinateAt s p which
-
--- A refusal applies to the bytes of a job: 3, 4, 5, 7 and 8 as above; 6: "the end's count differs from the runs read"; 9: "a 33rd run"; 10: "an
--- end with no runs". 1, 2 and 11 are not about the bytes.
-abbrev pub AppliesIn : List ℕ → Refusal → Type 0
-AppliesIn s ShortWork = ⊥
-AppliesIn s ShortPlan = ⊥
-AppliesIn s (Cut p) = Begins s p × CutAt s p
-AppliesIn s (UnknownKind p) = Begins s p × UnknownAt s p
-AppliesIn s (Misplaced p) = MisplacedAt s p
-AppliesIn s (WrongCount p) = (n : ℕ) × Behind s n p × Whole end s p × (countAt s p ≡ n → ⊥)
-AppliesIn s (WrongNumber p) = (n : ℕ) × Behind s n p × Whole run s p × WrongNumberAt s n p
-AppliesIn s (OutOfRange p) = (n : ℕ) × Behind s n p × Whole run s p × OutOfRangeAt s p
-AppliesIn s (TooManyRuns p) = Behind s 32 p × Starts run s p
-AppliesIn s (NoRuns p) = Behind s 0 p × Starts end s p
-AppliesIn s NoStar = ⊥
+-- A refusal applies to the bytes of a job. 1, 2 and 11 are not about the bytes.
+pub data AppliesIn (s : List ℕ) : Refusal → Type 0 where
+  -- 3: "the bytes end inside a record, or before an end record (then the place is the length)"
+  cut-inside : {p : ℕ} (k : Kind) → Begins s p → Starts k s p → length s < p + sizeOf k → AppliesIn s (Cut p)
+  cut-before-end : Begins s (length s) → AppliesIn s (Cut (length s))
+  -- 4: "unknown kind"
+  unknown-kind : {p : ℕ} → Begins s p → p < length s → ((k : Kind) → getD s p 0 ≡ byteOf k → ⊥) → AppliesIn s (UnknownKind p)
+  -- 5: "first record no head, a second head, or a byte after the end record (that byte's place; it isn't read further)"
+  no-head : 0 < length s → (getD s 0 0 ≡ byteOf head → ⊥) → AppliesIn s (Misplaced 0)
+  second-head : {n p : ℕ} → Behind s n p → Starts head s p → AppliesIn s (Misplaced p)
+  after-end : {n p : ℕ} → Behind s n p → Whole end s p → p + sizeOf end < length s → AppliesIn s (Misplaced (p + sizeOf end))
+  -- 6: "the end's count differs from the runs read"
+  wrong-count : {n p : ℕ} → Behind s n p → Whole end s p → (numberAt s p ≡ n → ⊥) → AppliesIn s (WrongCount p)
+  -- 7: "run number 0, above 9,999 or not above the one before"
+  number-zero : {n p : ℕ} → Behind s n p → Whole run s p → numberAt s p ≡ 0 → AppliesIn s (WrongNumber p)
+  number-above : {n p : ℕ} → Behind s n p → Whole run s p → 9999 < numberAt s p → AppliesIn s (WrongNumber p)
+  not-rising : {n p : ℕ} → Behind s (suc n) p → Whole run s p → numberAt s p ≤ numberAt s (place n) → AppliesIn s (WrongNumber p)
+  -- 8: "coordinate outside its range", one of the four
+  out-of-range : {n p : ℕ} (i : ℕ) → Behind s n p → Whole run s p → i < 4 → 2000000 < coordinateAt s p i → AppliesIn s (OutOfRange p)
+  -- 9: "a 33rd run"
+  run-33 : {p : ℕ} → Behind s 32 p → Starts run s p → AppliesIn s (TooManyRuns p)
+  -- 10: "an end with no runs"
+  no-runs : {p : ℕ} → Behind s 0 p → Starts end s p → AppliesIn s (NoRuns p)
