@@ -4,8 +4,9 @@
 use Prim.Native.Nat.{ℕ, suc, _<_}
 use mathlib.Core.Path.{_≡_}
 use mathlib.Core.List.{List, [], _∷_}
-use mathlib.Core.Bool.{Bool, false, cond, _||_}
-use lib.Dec.{eqb}
+use mathlib.Core.Bool.{Bool, cond}
+use lib.Dec.{eqb, ltb}
+use lib.ListN.{length, getD}
 use Rattle.job.specs.Refusal.{refusalNumber, refusalPlace}
 use Rattle.job.specs.declared.Refusal.{Refusal}
 
@@ -13,29 +14,18 @@ use Rattle.job.specs.declared.Refusal.{Refusal}
 abbrev pub order : List (List ℕ)
 order = (1 ∷ 2 ∷ []) ∷ (4 ∷ 3 ∷ 5 ∷ 9 ∷ 7 ∷ 8 ∷ 6 ∷ 10 ∷ []) ∷ (11 ∷ []) ∷ []
 
--- a number is one of these; how many stand before it
-abbrev pub isIn : ℕ → List ℕ → Bool
-isIn number [] = false
-isIn number (x ∷ rest) = eqb number x || isIn number rest
+-- how many elements stand before the first that passes the test; all, where none does
+abbrev pub before : {A : Type 0} → (A → Bool) → List A → ℕ
+before test [] = 0
+before test (a ∷ l) = cond (test a) 0 (suc (before test l))
 
-abbrev pub indexIn : ℕ → List ℕ → ℕ
-indexIn number [] = 0
-indexIn number (x ∷ rest) = cond (eqb number x) 0 (suc (indexIn number rest))
-
--- how many stages come before that of a number, and how many numbers of that stage come before it
-abbrev pub stageIn : ℕ → List (List ℕ) → ℕ
-stageIn number [] = 0
-stageIn number (stage ∷ rest) = cond (isIn number stage) 0 (suc (stageIn number rest))
-
-abbrev pub turnIn : ℕ → List (List ℕ) → ℕ
-turnIn number [] = 0
-turnIn number (stage ∷ rest) = cond (isIn number stage) (indexIn number stage) (turnIn number rest)
-
+-- the stage of a refusal: how many stages come before the one that has its number, where fewer than all stand before it
 abbrev pub stageOf : Refusal → ℕ
-stageOf x = stageIn (refusalNumber x) order
+stageOf x = before (λ stage. ltb (before (eqb (refusalNumber x)) stage) (length stage)) order
 
+-- its turn: how many numbers of that stage come before its own
 abbrev pub turnOf : Refusal → ℕ
-turnOf x = turnIn (refusalNumber x) order
+turnOf x = before (eqb (refusalNumber x)) (getD order (stageOf x) [])
 
 -- x comes before y
 pub data Sooner (x y : Refusal) : Type 0 where
