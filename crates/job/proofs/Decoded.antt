@@ -44,7 +44,7 @@ Says bytes rec.Cut = CutAt bytes 0
 module _ (kind : ℕ) (b : List ℕ) where
   -- bytes that end before the record of their kind does
   cut-says : (k : Kind) → kind ≡ byteOf k → length b < sizeOf k - 1 → CutAt (kind ∷ b) 0
-  cut-says k e l = inside k (record { within = omega arith; kind = e }) (omega arith)
+  cut-says k e l = inside k (omega arith, e) (omega arith)
 
   -- a kind that is none of the three
   unknown-says : (kind ≡ 0x48 → ⊥) → (kind ≡ 0x52 → ⊥) → (kind ≡ 0x5A → ⊥) → UnknownAt (kind ∷ b) 0

@@ -64,7 +64,7 @@ not-first s n p b e = absurd (omega (arith, b .at))
 
 -- what applies at 0, by its turn
 at-first : (s : List ℕ) (x : Refusal) → AppliesIn s x → refusalPlace x ≡ 0 → Sorted s 0 x
-at-first s x (cut-inside k b h l) e = cut refl (rw e at (inside k h l))
+at-first s x (cut-inside {p} k b h l) e = let c : CutAt s p = inside k h l in cut refl (rw e at c)
 at-first s x (cut-before-end b) e = cut refl (before-end (sym e))
 at-first s x (unknown-kind {p} b l f) e = let u : UnknownAt s p = record { within = l; none = f } in unknown refl (rw e at u)
 at-first s x (no-head l f) e = rest (omega arith)
@@ -91,7 +91,7 @@ module _ (s : List ℕ) where
   -- a whole record of another kind than a head
   other-first : (k : Kind) → (byteOf k ≡ byteOf head → ⊥) → Whole k s 0 → FirstOf (AppliesIn s) (Misplaced 0)
   other-first k f w =
-      first-first (Misplaced 0) refl (no-head (w .starts .within) (λ e. f (sym (w .starts .kind) ∙ e)))
+      first-first (Misplaced 0) refl (no-head (w .0 .0) (λ e. f (sym (w .0 .1) ∙ e)))
       (least-five s 0 k w)
 
   -- behind the head, before any run

@@ -11,10 +11,10 @@ use lib.ListN.{length, getD}
 use Rattle.job.specs.declared.Refusal.{Refusal}
 use Rattle.job.specs.declared.Refusal.the-variants.{ShortWork, ShortPlan, Cut, UnknownKind, Misplaced, WrongCount, WrongNumber, OutOfRange, TooManyRuns, NoRuns, NoStar}
 use Rattle.job.specs.Refusal.{refusalPlace}
-use Rattle.job.specs.Applies.{head, run, end, Starts, Whole, place, Behind, numberAt, coordinateAt, AppliesIn, cut-inside, cut-before-end, unknown-kind, no-head, second-head, after-end, wrong-count, number-zero, number-above, not-rising, out-of-range, run-33, no-runs}
+use Rattle.job.specs.Applies.{head, run, end, Starts, Whole, place, Behind, numberAt, AppliesIn, cut-inside, cut-before-end, unknown-kind, no-head, second-head, after-end, wrong-count, number-zero, number-above, not-rising, out-of-range, run-33, no-runs}
 use Rattle.job.specs.Order.{stageOf, turnOf, Sooner, by-stage, by-place, by-turn, FirstOf}
 use Rattle.job.proofs.Decoded.{CutAt, inside, before-end, UnknownAt}
-use Rattle.job.proofs.There.{whole-uncut, whole-known}
+use Rattle.job.proofs.There.{coordinateAt, whole-uncut, whole-known}
 use Rattle.job.proofs.Order.{either-way}
 
 -- ---- what is wrong with a record
@@ -78,13 +78,13 @@ data Found (s : List ℕ) (x : Refusal) : Type 0 where
 
 -- every refusal that applies is one of the two
 found : (s : List ℕ) → Whole head s 0 → (x : Refusal) → AppliesIn s x → Found s x
-found s w x (cut-inside k (inl e) h l) = absurd (whole-uncut head s 0 w (rw e at (inside k h l)))
+found s w x (cut-inside {p} k (inl e) h l) = let c : CutAt s p = inside k h l in absurd (whole-uncut head s 0 w (rw e at c))
 found s w x (cut-inside k (inr (n, b)) h l) = nth n _ b refl (inside k h l)
-found s w x (cut-before-end (inl e)) = absurd (omega (arith, w .ends))
+found s w x (cut-before-end (inl e)) = absurd (omega (arith, w .1))
 found s w x (cut-before-end (inr (n, b))) = nth n _ b refl (before-end refl)
-found s w x (unknown-kind (inl e) l f) = absurd (f head (ap (λ (i : ℕ). getD s i 0) e ∙ w .starts .kind))
+found s w x (unknown-kind (inl e) l f) = absurd (f head (ap (λ (i : ℕ). getD s i 0) e ∙ w .0 .1))
 found s w x (unknown-kind (inr (n, b)) l f) = nth n _ b refl (record { within = l; none = f })
-found s w x (no-head l f) = absurd (f (w .starts .kind))
+found s w x (no-head l f) = absurd (f (w .0 .1))
 found s w x (second-head b h) = nth _ _ b refl h
 found s w x (after-end b h l) = after _ _ b h refl l
 found s w x (wrong-count b h d) = nth _ _ b refl (h, d)
@@ -138,11 +138,11 @@ pub data Located (s : List ℕ) (n p : ℕ) (x : Refusal) : Type 0 where
 
 -- a run is no head
 pub run-head : (s : List ℕ) (p : ℕ) → Whole run s p → Starts head s p → ⊥
-run-head s p w h = omega (arith, w .starts .kind, h .kind)
+run-head s p w h = omega (arith, w .0 .1, h .1)
 
 -- nor an end
 pub run-end : (s : List ℕ) (p : ℕ) → Whole run s p → Starts end s p → ⊥
-run-end s p w h = omega (arith, w .starts .kind, h .kind)
+run-end s p w h = omega (arith, w .0 .1, h .1)
 
 module _ (s : List ℕ) (n p last : ℕ) (h : Passed s n p last) where
   -- nothing is wrong with a run that was passed
@@ -152,7 +152,7 @@ module _ (s : List ℕ) (n p last : ℕ) (h : Passed s n p last) where
   settled m l (Cut q) d = whole-uncut run s (place m) (h .behind .runs m l) d
   settled m l (UnknownKind q) d = whole-known run s (place m) (h .behind .runs m l) d
   settled m l (Misplaced q) d = run-head s (place m) (h .behind .runs m l) d
-  settled m l (WrongCount q) d = run-end s (place m) (h .behind .runs m l) (d .0 .starts)
+  settled m l (WrongCount q) d = run-end s (place m) (h .behind .runs m l) (d .0 .0)
   settled m l (WrongNumber q) d = h .right m l .numbered (d .1)
   settled m l (OutOfRange q) d = h .right m l .ranged (d .1)
   settled m l (TooManyRuns q) d = omega (arith, d .0, h .most)
@@ -179,7 +179,7 @@ module _ (s : List ℕ) (n p last : ℕ) (h : Passed s n p last) where
   locate-after m q b w x e f = go (either-way m n)
     where
       go : (m < n) ⊎ ((m ≡ n) ⊎ (n < m)) → Located s n p x
-      go (inl l) = absurd (run-end s (place m) (h .behind .runs m l) (rw (b .at) at (w .starts)))
+      go (inl l) = absurd (run-end s (place m) (h .behind .runs m l) (rw (b .at) at (w .0)))
       go (inr (inl l)) =
           let k : q ≡ p = omega (arith, b .at, h .behind .at) in
           behind (rw k at e) (rw k at w) (rw k at f)

@@ -12,9 +12,13 @@ use Rattle.job.specs.declared.Run.{Run}
 use Rattle.job.specs.declared.Record.{Record}
 use Rattle.job.specs.declared.Record.the-variants as rec
 use Rattle.job.specs.Fields.{word2, word4, biasedOf}
-use Rattle.job.specs.Applies.{Kind, head, run, end, byteOf, sizeOf, Whole, Behind, numberAt, coordinateAt}
+use Rattle.job.specs.Applies.{Kind, head, run, end, byteOf, sizeOf, Whole, Behind, numberAt}
 use Rattle.job.specs.Records.{runBody, recordOf}
 use Rattle.job.proofs.Decoded.{CutAt, inside, before-end, UnknownAt, Says, record-says}
+
+-- coordinate i of a run, from 0, biased
+abbrev pub coordinateAt : List ℕ → ℕ → ℕ → ℕ
+coordinateAt s p i = biasedOf (word4 s (p + 3 + 4 * i))
 
 -- the run whose record stands at a place
 abbrev pub runAt : List ℕ → ℕ → Run
@@ -72,13 +76,13 @@ module _ (s : List ℕ) (p : ℕ) where
     whole-there k e l m =
         let a = length-drop 1 (drop p s) in
         let b = length-drop p s in
-        record { starts = record { within = omega arith; kind = sym kind-there ∙ e }; ends = omega arith }
+        ((omega arith, sym kind-there ∙ e), omega arith)
 
     -- bytes that end too soon
     cut-there : CutAt (drop p s) 0 → CutAt s p
     cut-there (inside k h l) =
         let b = length-drop p s in
-        inside k (record { within = omega (arith, h .within); kind = sym kind-there ∙ h .kind }) (omega (arith, h .within))
+        inside k (omega (arith, h .0), sym kind-there ∙ h .1) (omega (arith, h .0))
     cut-there (before-end e) = before-end (omega (arith, length-drop p s))
 
     -- a kind that is none
@@ -99,8 +103,8 @@ module _ (s : List ℕ) (p : ℕ) where
 
 -- the place behind the head and n runs is within the bytes, or at their end
 pub behind-within : (s : List ℕ) (n p : ℕ) → Behind s n p → p ≤ length s
-behind-within s zero p b = omega (arith, b .at, b .headed .ends)
-behind-within s (suc n) p b = omega (arith, b .at, b .runs n (omega arith) .ends)
+behind-within s zero p b = omega (arith, b .at, b .headed .1)
+behind-within s (suc n) p b = omega (arith, b .at, b .runs n (omega arith) .1)
 
 -- kinds with one byte have one size
 sizes-agree : (k j : Kind) → byteOf k ≡ byteOf j → sizeOf k ≡ sizeOf j
@@ -116,14 +120,14 @@ sizes-agree end end e = refl
 
 -- the bytes do not end inside a whole record, nor before it
 pub whole-uncut : (k : Kind) (s : List ℕ) (p : ℕ) → Whole k s p → CutAt s p → ⊥
-whole-uncut k s p w (inside j h l) = omega (arith, w .ends, sizes-agree k j (sym (w .starts .kind) ∙ h .kind))
-whole-uncut k s p w (before-end e) = omega (arith, w .starts .within)
+whole-uncut k s p w (inside j h l) = omega (arith, w .1, sizes-agree k j (sym (w .0 .1) ∙ h .1))
+whole-uncut k s p w (before-end e) = omega (arith, w .0 .0)
 
 -- its kind is known
 pub whole-known : (k : Kind) (s : List ℕ) (p : ℕ) → Whole k s p → UnknownAt s p → ⊥
-whole-known k s p w h = h .none k (w .starts .kind)
+whole-known k s p w h = h .none k (w .0 .1)
 
 -- bytes that end too soon are of a known kind
 pub cut-known : (s : List ℕ) (p : ℕ) → CutAt s p → UnknownAt s p → ⊥
-cut-known s p (inside k h l) u = u .none k (h .kind)
+cut-known s p (inside k h l) u = u .none k (h .1)
 cut-known s p (before-end e) u = omega (arith, u .within)

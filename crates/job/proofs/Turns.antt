@@ -16,12 +16,12 @@ use Rattle.job.specs.declared.Refusal.{Refusal}
 use Rattle.job.specs.declared.Refusal.the-variants.{ShortWork, ShortPlan, Cut, UnknownKind, Misplaced, WrongCount, WrongNumber, OutOfRange, TooManyRuns, NoRuns, NoStar}
 use Rattle.job.specs.declared.Step.{Step}
 use Rattle.job.specs.declared.Step.the-variants.{Next, End, Refuse}
-use Rattle.job.specs.Applies.{Kind, head, run, end, Whole, place, numberAt, coordinateAt, AppliesIn, after-end}
+use Rattle.job.specs.Applies.{Kind, head, run, end, Whole, place, numberAt, AppliesIn, after-end}
 use Rattle.job.specs.Order.{turnOf, Sooner, FirstOf}
 use Rattle.job.specs.Parse.{follows, coordinatesIn, runStep, endStep, stepBy}
 use Rattle.job.proofs.Decoded.{by-test, CutAt, UnknownAt}
 use Rattle.job.proofs.Steps.{Follows, follows-true, Coordinates, coordinates-true}
-use Rattle.job.proofs.There.{runAt, There, whole-uncut, whole-known, cut-known}
+use Rattle.job.proofs.There.{coordinateAt, runAt, There, whole-uncut, whole-known, cut-known}
 use Rattle.job.proofs.Located.{WrongNumberAt, is-zero, above, not-above, OutOfRangeAt, Here, lastNumber, Right, Passed, Located, here, later, behind, run-head, run-end, locate, first-here}
 use Rattle.job.proofs.Order.{either-way, sooner-self}
 
@@ -155,7 +155,7 @@ module _ (s : List ℕ) (n p last : ℕ) (h : Passed s n p last) where
   run-fault w (Cut q) d = absurd (whole-uncut run s p w d)
   run-fault w (UnknownKind q) d = absurd (whole-known run s p w d)
   run-fault w (Misplaced q) d = absurd (run-head s p w d)
-  run-fault w (WrongCount q) d = absurd (run-end s p w (d .0 .starts))
+  run-fault w (WrongCount q) d = absurd (run-end s p w (d .0 .0))
   run-fault w (WrongNumber q) d = misnumbered refl (d .1)
   run-fault w (OutOfRange q) d = ranging refl
   run-fault w (TooManyRuns q) d = too-many refl (d .0)
@@ -168,11 +168,11 @@ module _ (s : List ℕ) (n p last : ℕ) (h : Passed s n p last) where
   end-fault w ShortPlan d = absurd d
   end-fault w (Cut q) d = absurd (whole-uncut end s p w d)
   end-fault w (UnknownKind q) d = absurd (whole-known end s p w d)
-  end-fault w (Misplaced q) d = absurd (omega (arith, w .starts .kind, d .kind))
+  end-fault w (Misplaced q) d = absurd (omega (arith, w .0 .1, d .1))
   end-fault w (WrongCount q) d = miscounted refl (d .1)
-  end-fault w (WrongNumber q) d = absurd (run-end s p (d .0) (w .starts))
-  end-fault w (OutOfRange q) d = absurd (run-end s p (d .0) (w .starts))
-  end-fault w (TooManyRuns q) d = absurd (omega (arith, w .starts .kind, d .1 .kind))
+  end-fault w (WrongNumber q) d = absurd (run-end s p (d .0) (w .0))
+  end-fault w (OutOfRange q) d = absurd (run-end s p (d .0) (w .0))
+  end-fault w (TooManyRuns q) d = absurd (omega (arith, w .0 .1, d .1 .1))
   end-fault w (NoRuns q) d = empty refl (d .0)
   end-fault w NoStar d = absurd d
 
@@ -228,7 +228,7 @@ module _ (s : List ℕ) (n p last : ℕ) (h : Passed s n p last) where
   unfolding runStep
   run-told w =
       by-test (Told s n p) (leb 32 n)
-      (λ t. first-here s n p last h (TooManyRuns p) refl (omega (arith, h .most, leb-true 32 n t), w .starts) (λ y d. least-nine y (run-fault w y d)))
+      (λ t. first-here s n p last h (TooManyRuns p) refl (omega (arith, h .most, leb-true 32 n t), w .0) (λ y d. least-nine y (run-fault w y d)))
       (λ a. by-test (Told s n p) (not (follows last (numberAt s p)))
       (λ t. first-here s n p last h (WrongNumber p) refl (w, number-wrong s n p last (h .is-last) (not-true _ t)) (λ y d. least-seven (leb-false _ _ a) y (run-fault w y d)))
       (λ b.
@@ -247,7 +247,7 @@ module _ (s : List ℕ) (n p last : ℕ) (h : Passed s n p last) where
 
       go : Located s n p x → (x ≡ Misplaced (p + 3)) × (p + 3 < length s)
       go (here e d) = absurd (wrong (end-fault w x d))
-      go (later e r) = absurd (run-end s p r (w .starts))
+      go (later e r) = absurd (run-end s p r (w .0))
       go (behind e r f) = (e, f)
 
   -- an end
@@ -259,7 +259,7 @@ module _ (s : List ℕ) (n p last : ℕ) (h : Passed s n p last) where
       (λ a.
       let c = eqb-true (numberAt s p) n (not-false _ a) in
       by-test (Told s n p) (eqb n 0)
-      (λ t. first-here s n p last h (NoRuns p) refl (eqb-true n 0 t, w .starts) (λ y d. least-ten c y (end-fault w y d)))
+      (λ t. first-here s n p last h (NoRuns p) refl (eqb-true n 0 t, w .0) (λ y d. least-ten c y (end-fault w y d)))
       (λ b.
       let some : 1 ≤ n = (let z = eqb-false n 0 b in omega (arith, z)) in
       by-test (Told s n p) (ltb 3 (length (drop p s)))
@@ -274,6 +274,6 @@ module _ (s : List ℕ) (n p last : ℕ) (h : Passed s n p last) where
   unfolding stepBy
   step-told rec.Unknown u = first-here s n p last h (UnknownKind p) refl u (λ y d. least-four s p y (sort s p n y d))
   step-told rec.Cut c = first-here s n p last h (Cut p) refl c (λ y d. least-three s p c y (sort s p n y d))
-  step-told (rec.Head number) w = first-here s n p last h (Misplaced p) refl (w .starts) (λ y d. least-five s p head w y (sort s p n y d))
+  step-told (rec.Head number) w = first-here s n p last h (Misplaced p) refl (w .0) (λ y d. least-five s p head w y (sort s p n y d))
   step-told (rec.Run r) (w, e) = rw e (run-told w)
   step-told (rec.End count) (w, e) = rw e (end-told w)

@@ -23,14 +23,12 @@ abbrev pub sizeOf : Kind → ℕ
 sizeOf = elim [ head ↦ 5 | run ↦ 19 | end ↦ 3 ]
 
 -- a record of the kind starts at the place: its kind byte stands there
-pub record Starts (k : Kind) (s : List ℕ) (p : ℕ) : Type 0 where
-  pub within : p < length s
-  pub kind : getD s p 0 ≡ byteOf k
+abbrev pub Starts : Kind → List ℕ → ℕ → Type 0
+Starts k s p = (p < length s) × (getD s p 0 ≡ byteOf k)
 
 -- it is whole: the bytes do not end inside it
-pub record Whole (k : Kind) (s : List ℕ) (p : ℕ) : Type 0 where
-  pub starts : Starts k s p
-  pub ends : p + sizeOf k ≤ length s
+abbrev pub Whole : Kind → List ℕ → ℕ → Type 0
+Whole k s p = Starts k s p × (p + sizeOf k ≤ length s)
 
 -- the place of run i, from 0, which is also the place of the record behind i runs
 abbrev pub place : ℕ → ℕ
@@ -50,10 +48,6 @@ Begins s p = (p ≡ 0) ⊎ ((n : ℕ) × Behind s n p)
 abbrev pub numberAt : List ℕ → ℕ → ℕ
 numberAt s p = word2 s (p + 1)
 
--- behind a run's number "first x, first y, second x, second y, 4 bytes each": coordinate i, from 0, biased (see `Fields`)
-abbrev pub coordinateAt : List ℕ → ℕ → ℕ → ℕ
-coordinateAt s p i = biasedOf (word4 s (p + 3 + 4 * i))
-
 -- A refusal applies to the bytes of a job. 1, 2 and 11 are not about the bytes.
 pub data AppliesIn (s : List ℕ) : Refusal → Type 0 where
   -- 3: "the bytes end inside a record, or before an end record (then the place is the length)"
@@ -71,8 +65,8 @@ pub data AppliesIn (s : List ℕ) : Refusal → Type 0 where
   number-zero : {n p : ℕ} → Behind s n p → Whole run s p → numberAt s p ≡ 0 → AppliesIn s (WrongNumber p)
   number-above : {n p : ℕ} → Behind s n p → Whole run s p → 9999 < numberAt s p → AppliesIn s (WrongNumber p)
   not-rising : {n p : ℕ} → Behind s (suc n) p → Whole run s p → numberAt s p ≤ numberAt s (place n) → AppliesIn s (WrongNumber p)
-  -- 8: "coordinate outside its range", one of the four
-  out-of-range : {n p : ℕ} (i : ℕ) → Behind s n p → Whole run s p → i < 4 → 2000000 < coordinateAt s p i → AppliesIn s (OutOfRange p)
+  -- 8: "coordinate outside its range": one of the four behind the run number, "4 bytes each", biased (see `Fields`)
+  out-of-range : {n p : ℕ} (i : ℕ) → Behind s n p → Whole run s p → i < 4 → 2000000 < biasedOf (word4 s (p + 3 + 4 * i)) → AppliesIn s (OutOfRange p)
   -- 9: "a 33rd run"
   run-33 : {p : ℕ} → Behind s 32 p → Starts run s p → AppliesIn s (TooManyRuns p)
   -- 10: "an end with no runs"
