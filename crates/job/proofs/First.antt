@@ -12,7 +12,7 @@ use Rattle.job.specs.declared.Run.{Run}
 use Rattle.job.specs.declared.Record.{Record}
 use Rattle.job.specs.declared.Record.the-variants as rec
 use Rattle.job.specs.declared.Refusal.{Refusal}
-use Rattle.job.specs.declared.Refusal.the-variants.{ShortWork, ShortPlan, Cut, UnknownKind, Misplaced, WrongCount, WrongNumber, OutOfRange, TooManyRuns, NoRuns, NoStar}
+use Rattle.job.specs.declared.Refusal.the-variants.{Cut, UnknownKind, Misplaced}
 use Rattle.job.specs.declared.Step.{Step}
 use Rattle.job.specs.declared.Step.the-variants.{Next, End, Refuse}
 use Rattle.job.specs.Refusal.{refusalPlace}

@@ -25,7 +25,7 @@ pub data WrongNumberAt (s : List ℕ) (n p : ℕ) : Type 0 where
   above : 9999 < numberAt s p → WrongNumberAt s n p
   not-above : (m : ℕ) → n ≡ suc m → numberAt s p ≤ numberAt s (place m) → WrongNumberAt s n p
 
--- one of its coordinates is
+-- one of its coordinates is out of its range
 pub record OutOfRangeAt (s : List ℕ) (p : ℕ) : Type 0 where
   pub which : ℕ
   pub one : which < 4
@@ -46,12 +46,12 @@ Here s n p (NoRuns q) = (n ≡ 0) × Starts end s p
 Here s n p NoStar = ⊥
 
 module _ (s : List ℕ) (n p : ℕ) (b : Behind s n p) where
-  -- a record that is cut behind the head and n runs is refused with 3
+  -- 3 applies where the bytes end inside the record, or before it
   cut-applies : CutAt s p → AppliesIn s (Cut p)
   cut-applies (inside k h l) = cut-inside k (inr (n, b)) h l
   cut-applies (before-end e) = rw e (cut-before-end (inr (n, rw e at b)))
 
-  -- a run with a wrong number there with 7
+  -- 7 applies where it is a run with a wrong number
   number-applies : Whole run s p → WrongNumberAt s n p → AppliesIn s (WrongNumber p)
   number-applies w (is-zero e) = number-zero b w e
   number-applies w (above l) = number-above b w l

@@ -1,4 +1,4 @@
--- What stands at a place of a job's bytes, in the words of `Applies`. The reader decodes what is left of the bytes from the place on, so each
+-- What stands at a place of a job's bytes, in the words of `Applies` and `Decoded`. The reader decodes what is left of the bytes from the place on, so each
 -- byte and each length is carried from there to the whole.
 -- Assumes nothing.
 use Prim.Native.Nat.{ℕ, zero, suc, _+_, _*_, _≤_, _<_}
