@@ -25,6 +25,7 @@ use Rattle.plan.specs.Plan.{Entry, bookBytes, entriesFrom, headOf, meetsOf, dra
 use Rattle.plan.proofs.Determined.{book-head, book-corners}
 use Rattle.plan.specs.Fits.{PointIn, HeadFits}
 use Rattle.plan.proofs.Whole.{entries-corners}
+use Rattle.job.proofs.Located.{one-stage}
 use Rattle.planner.specs.declared.Answer.{Answer}
 use Rattle.planner.specs.Verdict.{verdict}
 use Rattle.planner.specs.Call.{runsOf, numbersOf, planOf, Said, gives, refuses, said, codeOf, Plans, Words}
@@ -159,7 +160,7 @@ map-demands job out code out′ b call =
 -- 1 does not apply where 16,384 words are lent
 never-short : (job : List ℕ) (bytes : ℕ) (x : Refusal) → Applies job 16384 bytes x → refusalNumber x ≡ 1 → ⊥
 never-short job bytes ShortWork (short-work h) e = omega arith
-never-short job bytes ShortWork (in-bytes h) e = absurd h
+never-short job bytes ShortWork (in-bytes h) e = omega (arith, one-stage job ShortWork h)
 never-short job bytes ShortPlan a e = omega arith
 never-short job bytes (Cut p) a e = omega arith
 never-short job bytes (UnknownKind p) a e = omega arith
