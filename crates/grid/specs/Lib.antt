@@ -1,4 +1,4 @@
--- What the contracts of `grid` cite: the runs of a job from its arrays, and the lines of one axis.
+-- What the contracts of `grid` cite, and no demand: the runs of a job from its arrays, and the lines of one axis.
 pub mod Tables
 pub mod Runs
 pub mod Lines

@@ -1,10 +1,14 @@
--- What the planner promises: the verdict on a call, and what a call answers and leaves.
+-- What the planner promises.
+-- the demands of a call
 pub mod Call
+pub mod Demands
+-- the contracts of the two entry points, which the demands follow from
 pub mod Verdict
 pub mod Outcome
-pub mod Demands
+-- the examples of document 01
 pub mod Figures
 pub mod Examples
+-- what the contracts of the stages between speak of, and no demand
 pub mod Held
 pub mod Stages
 pub mod Coordinates

@@ -1,4 +1,4 @@
--- Routes as steps on the grid's lines, their corners, and the marks that count pits.
+-- What the contracts of `route` cite, and no demand: routes as steps on the grid's lines, their corners, and the marks that count pits.
 pub mod Route
 pub mod Walker
 pub mod Marked

@@ -1,4 +1,4 @@
--- What a star's routes can share: boxes in the centre's view, owners, the table's rules, the traced walk, the leaves' routes, and best routes.
+-- What the argument is stated with, and no demand: what a star's routes can share, boxes in the centre's view, owners, the table's rules, the traced walk, the leaves' routes, and best routes.
 pub mod Box
 pub mod Instance
 pub mod Table

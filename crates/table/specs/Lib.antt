@@ -1,4 +1,4 @@
--- What the contracts of `table` cite.
+-- What the contracts of `table` cite, and no demand.
 pub mod Side
 pub mod OnSides
 pub mod Frame
