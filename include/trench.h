@@ -5,9 +5,9 @@
  *
  *   job book    0x48 head     job number (4)
  *               0x52 run      run number (2), first x, first y, second x, second y (4 each)
- *               0x5A end      number of runs (2)
+ *               0x5A end      number of runs (2), from 0 to 32
  *
- *   plan book   0x50 head     job number (4), runs (2), trench (4), saved (4), pits (2), centre's run number (2)
+ *   plan book   0x50 head     job number (4), runs (2), trench (4), saved (4), pits (2), centre's run number (2), 0 with no runs
  *               0x4E route    run number, meets, corners (2 each); one a run, in job order, each followed by its corners
  *               0x43 corner   x, y (4 each); from the run's first point to its second
  *               0x5A end      total of corners (2)
@@ -39,7 +39,7 @@ extern "C" {
 #define TRENCH_STACK 131072
 
 /* The refusals. Where several apply to a job, the answer is the first in this order: 2; then the job's records front to back,
- * and within a record 4, 3, 5, 9, 7, 8, 6, 10; last 11. */
+ * and within a record 4, 3, 5, 9, 7, 8, 6; last 11. No call answers -10: a job without runs is planned. */
 enum trench_refusal {
     TRENCH_SHORT_WORK = 1,     /* work words under 16,384: never answered here, since the function has its own */
     TRENCH_SHORT_BUFFER = 2,   /* plan buffer under 40,960 bytes */
@@ -50,7 +50,6 @@ enum trench_refusal {
     TRENCH_RUN_NUMBER = 7,     /* run number 0, above 9,999 or not above the one before */
     TRENCH_COORDINATE = 8,     /* coordinate outside -1,000,000 to 1,000,000 */
     TRENCH_TOO_MANY_RUNS = 9,  /* a 33rd run */
-    TRENCH_NO_RUNS = 10,       /* an end with no runs */
     TRENCH_NO_STAR = 11        /* well formed, but no star: no run meets every other while no two others meet */
 };
 
@@ -60,7 +59,8 @@ enum trench_refusal {
  *
  * Accepted: the plan book fills the first bytes of `out`, as many as the answer says; no later byte is changed. Every route
  * runs from its run's first point to its second along survey lines and is as long as their Manhattan distance; `trench` is
- * the length of the routes' union, and no routes for these runs on the survey lines have a shorter one.
+ * the length of the routes' union, and no routes for these runs on the survey lines have a shorter one. A job without runs has
+ * a plan of 22 bytes: a head whose figures are all 0, no route, and an end.
  * Refused: no byte of `out` is changed. The bytes of `job` are never changed.
  *
  * What the caller owes: `job` points to `job_len` bytes and `out` to `out_len` bytes; neither is null, even where its length

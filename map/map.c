@@ -56,21 +56,19 @@ static size_t read_job(const char *name, uint8_t *job)
 static const char *words(int32_t number)
 {
     static const char *const meaning[] = {
-        "no refusal",
-        "work words under 16,384",
-        "plan buffer under 40,960 bytes",
-        "the bytes end inside a record, or before an end record",
-        "unknown kind of record",
-        "first record no head, a second head, or a byte after the end record",
-        "the end's count differs from the runs read",
-        "run number 0, above 9,999 or not above the one before",
-        "coordinate outside -1,000,000 to 1,000,000",
-        "a 33rd run",
-        "an end with no runs",
-        "well formed, but no star",
+        [TRENCH_SHORT_WORK] = "work words under 16,384",
+        [TRENCH_SHORT_BUFFER] = "plan buffer under 40,960 bytes",
+        [TRENCH_CUT] = "the bytes end inside a record, or before an end record",
+        [TRENCH_UNKNOWN_KIND] = "unknown kind of record",
+        [TRENCH_OUT_OF_PLACE] = "first record no head, a second head, or a byte after the end record",
+        [TRENCH_WRONG_COUNT] = "the end's count differs from the runs read",
+        [TRENCH_RUN_NUMBER] = "run number 0, above 9,999 or not above the one before",
+        [TRENCH_COORDINATE] = "coordinate outside -1,000,000 to 1,000,000",
+        [TRENCH_TOO_MANY_RUNS] = "a 33rd run",
+        [TRENCH_NO_STAR] = "well formed, but no star",
     };
-    size_t known = sizeof meaning / sizeof *meaning;
-    return number >= 0 && (size_t)number < known ? meaning[number] : "a refusal that this program does not know";
+    bool known = number >= 0 && (size_t)number < sizeof meaning / sizeof *meaning && meaning[number];
+    return known ? meaning[number] : "a refusal that this program does not know";
 }
 
 static int32_t answer(const uint8_t *job, size_t length)
@@ -144,8 +142,8 @@ static void read_plan(const uint8_t *bytes, size_t length, struct plan *plan)
     plan->saved = take(&r, 4);
     plan->pits = take(&r, 2);
     plan->centre = take(&r, 2);
-    if (plan->runs == 0 || plan->runs > TRENCH_MOST_RUNS)
-        fail("plan", "has no run, or too many");
+    if (plan->runs > TRENCH_MOST_RUNS)
+        fail("plan", "has too many runs");
     for (unsigned i = 0; i < plan->runs; i++) {
         struct route *route = &plan->route[i];
         expect(&r, ROUTE);
@@ -213,6 +211,12 @@ static int line_at(const int32_t *line, int count, int32_t value)
     return 0;
 }
 
+/* The last of a grid's columns or rows. A job without runs has none: 0 then, as the first is. */
+static int32_t last_line(const int32_t *line, int count)
+{
+    return count ? line[count - 1] : 0;
+}
+
 static void mark(cables *edges, int from, int to, cables who)
 {
     for (int at = from < to ? from : to; at < (from < to ? to : from); at++)
@@ -267,8 +271,8 @@ static double down(const struct view *v, int32_t y)
 
 static struct view fit(const struct grid *grid)
 {
-    double wide = (double)grid->column[grid->columns - 1] - grid->column[0];
-    double high = (double)grid->row[grid->rows - 1] - grid->row[0];
+    double wide = (double)last_line(grid->column, grid->columns) - grid->column[0];
+    double high = (double)last_line(grid->row, grid->rows) - grid->row[0];
     struct view v = { .scale = WIDEST };
     if (wide * v.scale > MAP_WIDTH)
         v.scale = MAP_WIDTH / wide;
@@ -280,7 +284,7 @@ static struct view fit(const struct grid *grid)
     v.left = (v.width - drawn) / 2;
     v.top = MARGIN;
     v.west = grid->column[0];
-    v.north = grid->row[grid->rows - 1];
+    v.north = last_line(grid->row, grid->rows);
     return v;
 }
 
@@ -305,8 +309,8 @@ static void draw_style(void)
 
 static void draw_survey_lines(const struct grid *grid, const struct view *v)
 {
-    double west = across(v, grid->column[0]) - REACH, east = across(v, grid->column[grid->columns - 1]) + REACH;
-    double north = down(v, grid->row[grid->rows - 1]) - REACH, south = down(v, grid->row[0]) + REACH;
+    double west = across(v, grid->column[0]) - REACH, east = across(v, last_line(grid->column, grid->columns)) + REACH;
+    double north = down(v, last_line(grid->row, grid->rows)) - REACH, south = down(v, grid->row[0]) + REACH;
     for (int a = 0; a < grid->columns; a++) {
         double x = across(v, grid->column[a]);
         printf("<line class=\"survey\" x1=\"%.3f\" y1=\"%.3f\" x2=\"%.3f\" y2=\"%.3f\"/>\n", x, north, x, south);
@@ -536,12 +540,16 @@ static void draw_key(double x, double y)
 static void draw_foot(const struct plan *plan, const struct view *v)
 {
     double y = v->height - FOOT;
-    printf("<text x=\"%d\" y=\"%.1f\">job %" PRIu32 ": %u run%s, centre %u</text>\n", MARGIN, y, plan->job, plan->runs,
-           plan->runs == 1 ? "" : "s", plan->centre);
+    if (plan->runs)
+        printf("<text x=\"%d\" y=\"%.1f\">job %" PRIu32 ": %u run%s, centre %u</text>\n", MARGIN, y, plan->job, plan->runs,
+               plan->runs == 1 ? "" : "s", plan->centre);
+    else
+        printf("<text x=\"%d\" y=\"%.1f\">job %" PRIu32 ": no runs</text>\n", MARGIN, y, plan->job);
     printf("<text x=\"%d\" y=\"%.1f\">trench %" PRIu32 " dm, saved %" PRIu32 " dm, pits %u</text>\n", MARGIN, y + 22, plan->trench,
            plan->saved, plan->pits);
     draw_key(MARGIN, y + 46);
-    draw_scale(v, y + 76);
+    if (plan->runs)
+        draw_scale(v, y + 76);
 }
 
 static void draw(const struct plan *plan)

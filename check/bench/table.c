@@ -8,6 +8,7 @@
 #include <string.h>
 
 enum { MOST_RUNS = 32, MOST_LINES = 64, WORDS = 16384, PLAN_ROOM = 40960, FAR = 1000000, TOP_NUMBER = 9999, NOBODY = 255 };
+enum { PLAN_HEAD_LENGTH = 19, BLANK_PLAN = 22 };
 enum { JOB_HEAD = 0x48, RUN = 0x52, END = 0x5A, PLAN_HEAD = 0x50, ROUTE = 0x4E, CORNER = 0x43 };
 
 struct run {
@@ -103,8 +104,6 @@ static int read_job(struct job *job, const uint8_t *bytes, size_t length)
         } else {
             if (half_at(body) != (uint32_t)job->count)
                 return 6;
-            if (job->count == 0)
-                return 10;
             return place == length ? 0 : 5;
         }
     }
@@ -617,7 +616,7 @@ static void leaf_path(const struct job *job, int i, const struct path *centre, c
 
 static size_t write_plan(const struct job *job, const struct frame *f, const struct steps *steps, uint32_t saved, uint8_t *out)
 {
-    struct sink s = { .bytes = out, .length = 19, .job = job };
+    struct sink s = { .bytes = out, .length = PLAN_HEAD_LENGTH, .job = job };
     struct path centre = { .count = 0 }, p;
     struct stretch shared[MOST_RUNS];
     uint32_t total = 0;
@@ -656,11 +655,22 @@ static size_t write_plan(const struct job *job, const struct frame *f, const str
     return length;
 }
 
-/* Reads a job book and makes the centre's frame; 0, or the refusal number. */
+/* The plan of a job without runs: a head whose figures are 0, and an end. */
+static size_t write_blank(const struct job *job, uint8_t *out)
+{
+    struct sink s = { .bytes = out, .length = 0 };
+    memset(out, 0, BLANK_PLAN);
+    s.bytes[s.length++] = PLAN_HEAD;
+    put_word(&s, job->number);
+    s.bytes[PLAN_HEAD_LENGTH] = END;
+    return BLANK_PLAN;
+}
+
+/* Reads a job book and makes the centre's frame, which a job without runs has not; 0, or the refusal number. */
 static int survey(struct job *job, struct frame *frame, const uint8_t *bytes, size_t length)
 {
     int refused = read_job(job, bytes, length);
-    if (refused)
+    if (refused || job->count == 0)
         return refused;
     lay_grid(job);
     if (!find_centre(job))
@@ -679,6 +689,8 @@ static int32_t plan(const uint8_t *bytes, size_t length, uint32_t *table, uint8_
     int refused = survey(&job, &frame, bytes, length);
     if (refused)
         return -refused;
+    if (job.count == 0)
+        return (int32_t)write_blank(&job, out);
     uint32_t best = fill(&frame, table);
     trace(&frame, table, &steps);
     return (int32_t)write_plan(&job, &frame, &steps, best - 1, out);
@@ -717,7 +729,7 @@ size_t table_frame(const uint8_t *job, size_t job_len, uint32_t rounds, uint8_t 
     struct job read;
     struct frame f;
     struct sink s = { .bytes = out, .length = 0 };
-    if (survey(&read, &f, job, job_len))
+    if (survey(&read, &f, job, job_len) || read.count == 0)
         return 0;
     put_word(&s, rounds);
     s.bytes[s.length++] = (uint8_t)(f.w - 1);
@@ -734,7 +746,7 @@ uint32_t table_rounds(const uint8_t *job, size_t job_len, uint32_t rounds, uint3
     struct frame f;
     struct steps steps = { .count = 0 };
     uint32_t table[WORDS], best = 1, all = 0;
-    if (survey(&read, &f, job, job_len) == 0)
+    if (survey(&read, &f, job, job_len) == 0 && read.count > 0)
         for (uint32_t i = 0; i < rounds; i++) {
             best = fill(&f, table);
             trace(&f, table, &steps);

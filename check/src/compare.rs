@@ -14,8 +14,8 @@ use crate::listing;
 use crate::random::Random;
 use crate::refusal::{self, PLAN_ROOM, Refusal};
 
-/// The lengths of plan buffers that every job is tried with.
-pub const SIZES: [usize; 5] = [0, 1, PLAN_ROOM - 1, PLAN_ROOM, PLAN_ROOM + 1];
+/// The lengths of plan buffers that every job is tried with. In 22 bytes a blank job's plan has room, and they are too few.
+pub const SIZES: [usize; 6] = [0, 1, 22, PLAN_ROOM - 1, PLAN_ROOM, PLAN_ROOM + 1];
 
 /// One call as its caller saw it.
 pub struct Called {
@@ -41,8 +41,9 @@ pub struct Case {
     pub what: String,
 }
 
-/// Jobs that every comparison starts with: the surveyed examples of document 01, and jobs at the limits.
-const SPECIAL: [&str; 20] = [
+/// Jobs that every comparison starts with: a blank one, the surveyed examples of document 01, and jobs at the limits.
+const SPECIAL: [&str; 21] = [
+    "# blank",
     "5,5 5,5",
     "0,0 3,4",
     "0,0 3,4; 0,0 3,4",
@@ -68,7 +69,7 @@ const SPECIAL: [&str; 20] = [
 /// The n-th case of a seed. The first are special ones, the same for every seed.
 pub fn case(seed: u64, n: u64) -> Case {
     if let Some(words) = SPECIAL.get(n as usize) {
-        let job = line::parse(words, 7).expect("a job line").expect("a job");
+        let job = line::parse(words, 7).expect("a job line").unwrap_or(Job { number: 7, runs: Vec::new() });
         return Case { bytes: job_bytes(&job), made_wrong: None, what: format!("special: {words}") };
     }
     let n = n - SPECIAL.len() as u64;
@@ -127,11 +128,12 @@ impl Report {
         self.faults.extend(other.faults);
     }
 
-    /// What of document 01 no job of this report tried: a refusal among 3 to 11, or a number of runs from 1 to 32. A report
-    /// of many jobs should have nothing here.
+    /// What of document 01 no job of this report tried: a refusal among 3 to 9 and 11, or a number of runs from 0 to 32. A
+    /// report of many jobs should have nothing here.
     pub fn untried(&self) -> Vec<String> {
-        let refusals = (3..=11).filter(|number| !self.refused.contains_key(number)).map(|n| format!("refusal {n}"));
-        let runs = (1..=32).filter(|runs| !self.accepted.contains_key(runs)).map(|n| format!("a star of {n} runs"));
+        let refusals = (3..=9).chain([11]);
+        let refusals = refusals.filter(|number| !self.refused.contains_key(number)).map(|n| format!("refusal {n}"));
+        let runs = (0..=32).filter(|runs| !self.accepted.contains_key(runs)).map(|n| format!("a star of {n} runs"));
         refusals.chain(runs).collect()
     }
 }
@@ -139,12 +141,16 @@ impl Report {
 impl fmt::Display for Report {
     fn fmt(&self, out: &mut fmt::Formatter) -> fmt::Result {
         let accepted: usize = self.accepted.values().sum();
-        let full: usize = self.accepted.range(32..).map(|(_, count)| count).sum();
+        let of = |runs: usize| self.accepted.get(&runs).copied().unwrap_or(0);
         let refused: Vec<String> = self.refused.iter().map(|(number, count)| format!("{number}: {count}")).collect();
         write!(
             out,
-            "{} jobs, {} calls: {accepted} accepted ({full} of 32 runs, longest plan {} bytes)",
-            self.jobs, self.calls, self.longest_plan
+            "{} jobs, {} calls: {accepted} accepted ({} blank, {} of 32 runs, longest plan {} bytes)",
+            self.jobs,
+            self.calls,
+            of(0),
+            of(32),
+            self.longest_plan
         )?;
         write!(out, "; refused by number: {}; {} faults", refused.join(", "), self.faults.len())
     }

@@ -43,7 +43,7 @@ pub fn damaged(random: &mut Random, way: usize) -> Damaged {
         5 => second_head_cut(random, bytes, runs),
         6 => after_end(random, bytes),
         7 => wrong_count(random, bytes, end, runs),
-        8 => no_runs(random, &bytes),
+        8 => blank(random, &bytes),
         9 => wrong_number(random, job, some_run, false),
         10 => wrong_number(random, job, some_run, true),
         11 => wrong_coordinate(random, job, some_run),
@@ -146,7 +146,7 @@ fn wrong_count(random: &mut Random, mut bytes: Vec<u8>, end: usize, runs: usize)
     let runs = runs as u16;
     let count = match random.below(4) {
         0 => runs + 1,
-        1 => runs - 1,
+        1 => runs.wrapping_sub(1),
         2 => runs | 0x100,
         _ => runs ^ (1 + random.below(65_535) as u16),
     };
@@ -155,13 +155,14 @@ fn wrong_count(random: &mut Random, mut bytes: Vec<u8>, end: usize, runs: usize)
     made("wrong count", bytes, 6, end)
 }
 
-fn no_runs(random: &mut Random, bytes: &[u8]) -> Damaged {
-    let mut short = bytes[..5].to_vec();
-    let count = if random.once_in(2) { 0 } else { 1 + random.below(65_535) as u16 };
-    short.push(END);
-    short.extend(count.to_le_bytes());
-    let short = then_anything(random, &short, 8);
-    made("end with no runs", short, if count == 0 { 10 } else { 6 }, 5)
+/// A blank job, which has a head and an end, with a wrong count, with bytes behind it, or cut.
+fn blank(random: &mut Random, bytes: &[u8]) -> Damaged {
+    let blank = [&bytes[..5], &[END, 0, 0]].concat();
+    match random.below(3) {
+        0 => wrong_count(random, blank, 5, 0),
+        1 => after_end(random, blank),
+        _ => cut(random, blank, 0),
+    }
 }
 
 /// A coordinate just outside its range, or far outside.

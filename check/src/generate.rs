@@ -362,9 +362,9 @@ pub fn near_star(random: &mut Random) -> Job {
     numbered(random, &points)
 }
 
-/// Runs with no design, on so few lines that some jobs are stars.
+/// Runs with no design, on so few lines that some jobs are stars; or no run.
 pub fn any(random: &mut Random) -> Job {
-    let count = if random.once_in(4) { 1 + random.below(MOST_RUNS) } else { 1 + random.below(4) };
+    let count = if random.once_in(4) { random.below(MOST_RUNS + 1) } else { random.below(5) };
     let reach = *random.pick(&[2, 4, 8, 100, FAR]);
     let point = |random: &mut Random| Point::new(random.from(-reach, reach), random.from(-reach, reach));
     let points: Vec<(Point, Point)> = (0..count).map(|_| (point(random), point(random))).collect();

@@ -60,8 +60,13 @@ impl Graph {
         others.iter().all(|&i| self.meet(c, i)) && others.iter().all(|&i| others.iter().all(|&j| !self.meet(i, j)))
     }
 
-    /// The index of the star's centre, or none where the runs form no star. Of two runs that meet, both would do, and the
-    /// one of lower number is the centre: run numbers rise, so it stands first.
+    /// Whether the runs form a star: one of them is a centre, or there is none (02, C-11).
+    pub fn is_star(&self) -> bool {
+        self.meets.is_empty() || self.centre().is_some()
+    }
+
+    /// The index of the star's centre, or none where the runs form no star or there is no run. Of two runs that meet, both
+    /// would do, and the one of lower number is the centre: run numbers rise, so it stands first.
     pub fn centre(&self) -> Option<usize> {
         (0..self.meets.len()).find(|&c| self.is_centre(c))
     }

@@ -16,7 +16,8 @@ pub const LONGEST_PLAN: usize = 36_822;
 /// A job with all that a plan of it is held against, worked out once.
 pub struct Judge {
     survey: Survey,
-    centre: usize,
+    /// The run number of the centre, 0 where there is no run.
+    centre: u16,
     least: i64,
 }
 
@@ -32,7 +33,8 @@ impl Judge {
     /// The judge of plans for this job, which is well formed and a star.
     pub fn new(survey: Survey) -> Judge {
         let plan = planner::plan_surveyed(&survey).expect("the job is a star");
-        Judge { survey, centre: plan.centre, least: plan.trench }
+        let centre = plan.centre.map_or(0, |centre| survey.job.runs[centre].number);
+        Judge { survey, centre, least: plan.trench }
     }
 
     /// Everything that is wrong with these bytes as a plan of the job.
@@ -57,7 +59,7 @@ impl Judge {
         let corners: usize = book.routes.iter().map(|route| route.corners.len()).sum();
         same("the head's job number", book.job.into(), self.survey.job.number.into());
         same("the head's number of runs", book.runs.into(), self.survey.job.runs.len() as i64);
-        same("the head's centre", book.centre.into(), self.survey.job.runs[self.centre].number.into());
+        same("the head's centre", book.centre.into(), self.centre.into());
         same("the end's total of corners", book.total.into(), corners as i64);
         same("the number of route records", book.routes.len() as i64, self.survey.job.runs.len() as i64);
         let pits = book.routes.iter().flat_map(|route| &route.corners).collect::<BTreeSet<_>>().len();

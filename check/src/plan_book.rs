@@ -18,7 +18,7 @@ pub struct PlanBook {
     pub saved: u32,
     /// The head's pits.
     pub pits: u16,
-    /// The head's run number of the centre.
+    /// The head's run number of the centre, 0 where there is no run.
     pub centre: u16,
     /// The routes.
     pub routes: Vec<RouteRecord>,
@@ -84,7 +84,7 @@ impl PlanBook {
             trench: word(plan.trench),
             saved: word(plan.saved),
             pits: half(plan.pits),
-            centre: job.runs[plan.centre].number,
+            centre: plan.centre.map_or(0, |centre| job.runs[centre].number),
             routes: (0..job.runs.len()).map(route).collect(),
             total: half(plan.corners.iter().map(Vec::len).sum()),
         }

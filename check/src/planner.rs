@@ -13,8 +13,8 @@ use crate::job::{Job, Point};
 /// A plan: one route a run, in job order, each given by its corners.
 #[derive(Clone, Debug, PartialEq, Eq)]
 pub struct Plan {
-    /// The index of the centre in the job.
-    pub centre: usize,
+    /// The index of the centre in the job; none where there is no run.
+    pub centre: Option<usize>,
     /// Each run's meets figure.
     pub meets: Vec<usize>,
     /// Each route's corners: the first point, each vertex at which it turns, the second point; one corner where they coincide.
@@ -40,23 +40,24 @@ pub fn plan(job: &Job) -> Option<Plan> {
 /// The same for a job that is surveyed already.
 pub fn plan_surveyed(survey: &Survey) -> Option<Plan> {
     let Survey { job, grid, graph } = survey;
-    let centre = graph.centre()?;
-    let by_graph = in_out::least(job, centre);
+    if !graph.is_star() {
+        return None;
+    }
+    let centre = graph.centre();
+    let by_graph = centre.map(|centre| in_out::least(job, centre));
     let small = grid.edge_count() <= FEW_EDGES;
-    let least = match small.then(|| enumerate::all(job, grid, FEW_SEQUENCES)).flatten() {
-        Some(by_enumeration) => {
-            assert_eq!(by_enumeration.trench, by_graph.trench, "enumeration and in-out graph agree on {job:?}");
-            by_enumeration
-        }
-        None => by_graph,
-    };
+    let by_enumeration = small.then(|| enumerate::all(job, grid, FEW_SEQUENCES)).flatten();
+    if let (Some(all), Some(graph)) = (&by_enumeration, &by_graph) {
+        assert_eq!(all.trench, graph.trench, "enumeration and in-out graph agree on {job:?}");
+    }
+    let least = by_enumeration.or(by_graph).expect("the runs have a centre, or there is none and one empty sequence");
     let plan = drawn(survey, centre, &least.routes);
     assert_eq!(plan.trench, least.trench, "the figure is the length of the union");
     Some(plan)
 }
 
 /// The plan of these routes, its figures measured on them.
-pub fn drawn(survey: &Survey, centre: usize, routes: &[Path]) -> Plan {
+pub fn drawn(survey: &Survey, centre: Option<usize>, routes: &[Path]) -> Plan {
     let Survey { job, grid, graph } = survey;
     let union = routes.iter().fold(EdgeSet::none(grid), |union, path| union.union(&EdgeSet::along(grid, path)));
     let trench = union.length(grid);

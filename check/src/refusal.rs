@@ -12,7 +12,7 @@ pub const PLAN_ROOM: usize = 40_960;
 /// A refusal's number and place.
 #[derive(Clone, Copy, Debug, PartialEq, Eq)]
 pub struct Refusal {
-    /// 1 to 11.
+    /// 1 to 9, or 11.
     pub number: i32,
     /// The offset of the record at fault, or what document 01 says instead.
     pub place: usize,
@@ -36,7 +36,6 @@ pub fn words(number: i32) -> &'static str {
         7 => "run number 0, above 9,999 or not above the one before",
         8 => "coordinate outside -1,000,000 to 1,000,000",
         9 => "a 33rd run",
-        10 => "an end with no runs",
         11 => "well formed, but no star",
         _ => "no refusal of document 01",
     }
@@ -64,8 +63,8 @@ fn point(body: &[u8], at: usize) -> Point {
     Point::new(word(body, at) as i32, word(body, at + 4) as i32)
 }
 
-/// The job of a job book, or the first of the refusals 3 to 10 that applies: records front to back, and within a record 4,
-/// 3, 5, 9, 7, 8, 6, 10. The end record is judged before a byte after it.
+/// The job of a job book, or the first of the refusals 3 to 9 that applies: records front to back, and within a record 4,
+/// 3, 5, 9, 7, 8, 6. The end record is judged before a byte after it. A job may have no runs (02, C-11).
 pub fn read(bytes: &[u8]) -> Result<Job, Refusal> {
     let mut number = None;
     let mut runs: Vec<Run> = Vec::new();
@@ -99,9 +98,6 @@ pub fn read(bytes: &[u8]) -> Result<Job, Refusal> {
                 if usize::from(half(body, 0)) != runs.len() {
                     return refuse(6);
                 }
-                if runs.is_empty() {
-                    return refuse(10);
-                }
                 let after = place + length;
                 if after < bytes.len() {
                     return Err(Refusal { number: 5, place: after });
@@ -113,7 +109,7 @@ pub fn read(bytes: &[u8]) -> Result<Job, Refusal> {
     }
 }
 
-/// What is due for a job book: the job, well formed and a star, or its refusal among 3 to 11.
+/// What is due for a job book: the job, well formed and a star, or its refusal among 3 to 9 and 11.
 pub fn verdict(bytes: &[u8]) -> Result<Job, Refusal> {
     surveyed(bytes).map(|survey| survey.job)
 }
@@ -121,8 +117,5 @@ pub fn verdict(bytes: &[u8]) -> Result<Job, Refusal> {
 /// The same, with all that was worked out for it.
 pub fn surveyed(bytes: &[u8]) -> Result<Survey, Refusal> {
     let survey = Survey::of(read(bytes)?);
-    match survey.graph.centre() {
-        Some(_) => Ok(survey),
-        None => Err(Refusal { number: 11, place: 0 }),
-    }
+    if survey.graph.is_star() { Ok(survey) } else { Err(Refusal { number: 11, place: 0 }) }
 }

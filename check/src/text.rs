@@ -1,5 +1,5 @@
-//! A job as it is typed at the desk: a line `job 7`, then a line `number x,y x,y` for each run. Blank lines and what follows
-//! a `#` do not count. Every error names its line.
+//! A job as it is typed at the desk: a line `job 7`, then a line `number x,y x,y` for each run, of which there may be none.
+//! Empty lines and what follows a `#` do not count. Every error names its line.
 
 use std::fmt;
 
@@ -31,7 +31,7 @@ impl fmt::Display for Wrong {
 }
 
 /// The job of a text, or everything that is wrong with it, line by line. An accepted text is a well-formed job: none of the
-/// refusals 3 to 10 applies to its job book.
+/// refusals 3 to 9 applies to its job book.
 pub fn parse(text: &str) -> Result<Typed, Vec<Wrong>> {
     let mut number = None;
     let mut typed = Typed { job: Job { number: 0, runs: Vec::new() }, lines: Vec::new() };
@@ -56,10 +56,8 @@ pub fn parse(text: &str) -> Result<Typed, Vec<Wrong>> {
         last = line;
     }
     typed.job.number = number.unwrap_or(0);
-    if errors.is_empty() && typed.lines.is_empty() {
-        let what =
-            if number.is_some() { "the job has no run (refusal 10)" } else { "nothing is typed; a job is wanted" };
-        errors.push(Wrong { line: last, what: what.to_string() });
+    if errors.is_empty() && number.is_none() {
+        errors.push(Wrong { line: last, what: "nothing is typed; a job is wanted".to_string() });
     }
     if errors.is_empty() { Ok(typed) } else { Err(errors) }
 }

@@ -1,6 +1,6 @@
 //! The comparison passes a right planner, and notices each wrong one.
 
-use trench_check::compare::{Called, Caller, Report, case, try_cases, try_listing};
+use trench_check::compare::{Called, Caller, Report, SIZES, case, try_cases, try_listing};
 use trench_check::listing;
 use trench_check::plan_book::PlanBook;
 use trench_check::planner;
@@ -58,7 +58,7 @@ fn changed(job: &[u8], out: &mut [u8], change: impl FnOnce(&mut PlanBook)) -> i3
 fn a_right_planner_passes() {
     let report = report(right);
     assert_eq!(report.faults, Vec::<String>::new());
-    assert_eq!((report.jobs, report.calls), (JOBS as usize, 5 * JOBS as usize));
+    assert_eq!((report.jobs, report.calls), (JOBS as usize, SIZES.len() * JOBS as usize));
 }
 
 #[test]
@@ -71,6 +71,11 @@ fn wrong_answers_are_noticed() {
     );
     assert_noticed(|job, out| right(job, out).max(-10), "the answer is -10 and should be -11");
     assert_noticed(|job, out| if job.is_empty() { -4 } else { right(job, out) }, "the answer is -4 and should be");
+    let blank_refused = |job: &[u8], out: &mut [u8]| match right(job, out) {
+        22 => -10,
+        answer => answer,
+    };
+    assert_noticed(blank_refused, "the answer is -10, but a plan is due");
 }
 
 #[test]
@@ -93,7 +98,8 @@ fn wrong_bytes_are_noticed() {
     assert_noticed(touch_behind, "a byte behind the plan was changed");
     assert_noticed(|job, out| changed(job, out, |book| book.trench += 1), "but the routes dig");
     assert_noticed(|job, out| changed(job, out, |book| book.pits += 1), "pits is");
-    assert_noticed(|job, out| changed(job, out, |book| book.routes[0].meets = 0), "meets is 0 and should be");
+    let meets_none = |book: &mut PlanBook| book.routes.iter_mut().for_each(|route| route.meets = 0);
+    assert_noticed(|job, out| changed(job, out, meets_none), "meets is 0 and should be");
 }
 
 #[test]

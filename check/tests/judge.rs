@@ -49,6 +49,24 @@ fn right_plans_pass() {
 }
 
 #[test]
+fn a_blank_job_has_one_plan() {
+    let job = Job { number: 7, runs: Vec::new() };
+    let bytes = job_bytes(&job);
+    let plan = book(&job);
+    assert_eq!(plan.bytes(), [0x50, 7, 0, 0, 0, 0, 0, 0, 0, 0, 0, 0, 0, 0, 0, 0, 0, 0, 0, 0x5A, 0, 0]);
+    assert_eq!(judge(&bytes, &plan.bytes()), Vec::<String>::new());
+    for at in 0..22 {
+        let mut changed = plan.bytes();
+        changed[at] ^= 1;
+        assert!(!judge(&bytes, &changed).is_empty(), "byte {at}");
+    }
+    let (_, other) = example();
+    let mut more = plan.clone();
+    more.routes.push(other.routes[1].clone());
+    assert_says(&judge(&bytes, &more.bytes()).join("\n"), "the number of route records is 1 and should be 0");
+}
+
+#[test]
 fn figures_off_by_one_are_caught() {
     assert_says(&verdict_on(|book| book.trench += 1), "trench is 101, but the routes dig 100");
     assert_says(&verdict_on(|book| book.trench -= 1), "trench is 99, but the routes dig 100");
@@ -141,8 +159,7 @@ fn one_bend_each(job: &Job) -> PlanBook {
     };
     let vertex = |p: Point| survey.grid.vertex(p).expect("a run's points are vertices");
     let routes: Vec<Path> = job.runs.iter().map(|run| path(vertex(run.first), vertex(run.second))).collect();
-    let centre = survey.graph.centre().expect("a star");
-    PlanBook::of(job, &planner::drawn(&survey, centre, &routes))
+    PlanBook::of(job, &planner::drawn(&survey, survey.graph.centre(), &routes))
 }
 
 #[test]

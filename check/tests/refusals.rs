@@ -3,10 +3,11 @@
 use trench_check::book::job_bytes;
 use trench_check::damage;
 use trench_check::generate;
+use trench_check::job::Job;
 use trench_check::random::Random;
 use trench_check::refusal::{Refusal, read, verdict};
 
-fn refused(number: i32, place: usize) -> Result<trench_check::job::Job, Refusal> {
+fn refused(number: i32, place: usize) -> Result<Job, Refusal> {
     Err(Refusal { number, place })
 }
 
@@ -43,9 +44,10 @@ fn readings_of_document_01() {
     assert_eq!(verdict(&run(1, 0)[..18]), refused(3, 0), "a run in first place, cut");
     assert_eq!(verdict(&[0x5A, 0, 0]), refused(5, 0), "an end in first place");
     assert_eq!(verdict(&[0]), refused(4, 0), "an unknown first byte");
-    assert_eq!(verdict(&book(&[&head, &[0x5A, 0, 0]])), refused(10, 5), "no runs");
+    assert_eq!(verdict(&book(&[&head, &[0x5A, 0, 0]])), Ok(Job { number: 7, runs: Vec::new() }), "no runs");
     assert_eq!(verdict(&book(&[&head, &[0x5A, 1, 0]])), refused(6, 5), "no runs, and a wrong count");
-    assert_eq!(verdict(&book(&[&head, &[0x5A, 0, 0, 0]])), refused(10, 5), "the end is judged before what follows");
+    assert_eq!(verdict(&book(&[&head, &[0x5A, 0, 0, 0]])), refused(5, 8), "no runs, and a byte after the end");
+    assert_eq!(verdict(&book(&[&head, &[0x5A, 1, 0, 0]])), refused(6, 5), "the end is judged before what follows");
     assert_eq!(verdict(&book(&[&head, &run(1, 0), &[0x5A, 1, 0, 9]])), refused(5, 27), "a byte after the end");
     assert_eq!(verdict(&book(&[&head, &run(0, 2_000_000)])), refused(7, 5), "7 before 8");
     assert_eq!(verdict(&book(&[&head, &run(1, 2_000_000)])), refused(8, 5), "8 before what is missing later");

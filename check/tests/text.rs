@@ -25,6 +25,12 @@ fn a_typed_job() {
 }
 
 #[test]
+fn a_blank_job() {
+    let typed = parse("job 7\n\n# nothing\n").expect("a right text");
+    assert_eq!((typed.job, typed.lines), (Job { number: 7, runs: Vec::new() }, Vec::new()));
+}
+
+#[test]
 fn what_is_shown_is_read_back() {
     for n in 0..500 {
         let job = generate::star(&mut Random::nth(6, n), KINDS[n as usize % KINDS.len()]);
@@ -44,7 +50,7 @@ fn accepted_texts_are_well_formed_jobs() {
 #[test]
 fn errors_name_their_lines() {
     assert_eq!(errors(""), "line 1: nothing is typed; a job is wanted");
-    assert_eq!(errors("job 7\n\n# nothing\n"), "line 1: the job has no run (refusal 10)");
+    assert_eq!(errors("\n# nothing\n"), "line 1: nothing is typed; a job is wanted");
     assert_eq!(errors("1 0,0 1,1\n"), "line 1: the job's number is wanted first, as in `job 7`");
     assert_eq!(errors("job\n1 0,0 1,1\n"), "line 1: one number is wanted after `job`, as in `job 7`");
     assert_eq!(errors("job -1\n"), "line 1: `-1` is no job number; one from 0 to 4294967295 is wanted");
@@ -104,4 +110,12 @@ fn the_listing_of_document_01() {
     assert_eq!(listing::of_plan(&book), text);
     assert_eq!(listing::read_plan(text), Ok(book));
     assert_eq!(listing::of_refusal(refusal::Refusal { number: 11, place: 0 }), "refused 11 at 0\n");
+}
+
+#[test]
+fn the_listing_of_a_blank_job() {
+    let job = parse("job 7\n").expect("a right text").job;
+    let book = PlanBook::of(&job, &planner::plan(&job).expect("a star"));
+    let text = "job 7 runs 0 centre 0 trench 0 saved 0 pits 0\n";
+    assert_eq!((listing::of_plan(&book).as_str(), listing::read_plan(text)), (text, Ok(book)));
 }

@@ -6,7 +6,7 @@ use std::path::{Path, PathBuf};
 
 use common::{compile, has, run};
 
-/// Plans document 01's example and a refused job, with every name of the header in use.
+/// Plans a job of one run, a blank one and a refused one, with every name of the header in use.
 const PROGRAM: &str = r#"
 #include "trench.h"
 #include "trench.h"
@@ -15,6 +15,7 @@ const PROGRAM: &str = r#"
 static const uint8_t job[] = { 0x48, 7, 0, 0, 0,
     0x52, 1, 0, 0, 0, 0, 0, 0, 0, 0, 0, 3, 0, 0, 0, 4, 0, 0, 0,
     0x5A, 1, 0 };
+static const uint8_t blank[] = { 0x48, 7, 0, 0, 0, 0x5A, 0, 0 };
 static uint8_t out[TRENCH_PLAN_ROOM];
 
 int main(void)
@@ -29,11 +30,13 @@ int main(void)
     if (trench_plan(job, sizeof job - 1, out, sizeof out) != -TRENCH_CUT)
         return 4;
     static const int numbers[] = { TRENCH_SHORT_WORK, TRENCH_SHORT_BUFFER, TRENCH_CUT, TRENCH_UNKNOWN_KIND, TRENCH_OUT_OF_PLACE,
-        TRENCH_WRONG_COUNT, TRENCH_RUN_NUMBER, TRENCH_COORDINATE, TRENCH_TOO_MANY_RUNS, TRENCH_NO_RUNS, TRENCH_NO_STAR };
-    for (int i = 0; i < 11; i++)
+        TRENCH_WRONG_COUNT, TRENCH_RUN_NUMBER, TRENCH_COORDINATE, TRENCH_TOO_MANY_RUNS };
+    for (int i = 0; i < 9; i++)
         if (numbers[i] != i + 1)
             return 5;
-    return TRENCH_MOST_RUNS == 32 && TRENCH_STACK >= 65536 ? 0 : 6;
+    if (trench_plan(blank, sizeof blank, out, sizeof out) != 22 || out[5] != 0 || out[19] != 0x5A)
+        return 6;
+    return TRENCH_NO_STAR == 11 && TRENCH_MOST_RUNS == 32 && TRENCH_STACK >= 65536 ? 0 : 7;
 }
 "#;
 

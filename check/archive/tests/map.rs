@@ -67,6 +67,10 @@ fn assert_drawing(job: &Job, plan: &PlanBook, document: &str) {
     let corners: BTreeSet<Point> = plan.routes.iter().flat_map(|route| route.corners.iter().copied()).collect();
     assert_eq!(pits.keys().copied().collect::<BTreeSet<_>>(), corners, "the pits are the corners");
     assert_eq!((of("circle", "pit").len(), corners.len()), (usize::from(plan.pits), usize::from(plan.pits)));
+    if job.runs.is_empty() {
+        assert_blank(job, &all);
+        return;
+    }
     let view = View::of(&pits);
     pits.iter().for_each(|(&p, &(x, y))| view.assert_drawn(p, x, y, "pit"));
     assert_trenches(job, plan, &view, &of("line", "trench"));
@@ -83,6 +87,18 @@ fn assert_drawing(job: &Job, plan: &PlanBook, document: &str) {
         assert!(all.iter().any(|element| element.name == "text" && element.text == words), "`{words}` is there");
     }
     assert_eq!(of("path", "scale").len(), 1, "a scale");
+}
+
+/// The sheet of a job without runs: its number and its figures, and nothing of a map but the key.
+fn assert_blank(job: &Job, all: &[Element]) {
+    let classes = ["survey", "trench", "centre", "pit", "end", "label", "scale"];
+    let drawn =
+        all.iter().filter(|element| !element.has_class("key") && classes.iter().any(|class| element.has_class(class)));
+    let drawn: Vec<&str> = drawn.map(|element| element.name.as_str()).collect();
+    assert_eq!(drawn, ["line"], "the key's line of a centre");
+    for words in [format!("job {}: no runs", job.number), "trench 0 dm, saved 0 dm, pits 0".to_string()] {
+        assert!(all.iter().any(|element| element.name == "text" && element.text == words), "`{words}` is there");
+    }
 }
 
 /// Every trench says from where to where it goes and whose cables it carries; together they are the plan's union.

@@ -78,7 +78,6 @@ record Rest (number n last : ℕ) (bytes : List ℕ) (number₁ : ℕ) (runs : L
   same : number ≡ number₁
   up : Rising last runs
   below : n + length runs ≤ 32
-  some : 1 ≤ n + length runs
   written : bytes ≡ runsBytes runs ++ (0x5A ∷ bytes2 (n + length runs))
 
 -- a refusal is no acceptance
@@ -103,7 +102,6 @@ module _ (number : ℕ) (at n last : ℕ) (bytes : List ℕ) (h : Bytes bytes) (
         same = tail .same;
         up = more (t .rises) (t .range) (tail .up);
         below = omega (arith, tail .below);
-        some = omega (arith, tail .some);
         written = run-bytes bytes r h (t .is) ∙ ap (λ l. runBytes r ++ l) (tail .written ∙ rw count);
       })
 
@@ -119,7 +117,6 @@ module _ (number : ℕ) (at n last : ℕ) (bytes : List ℕ) (h : Bytes bytes) (
         same = same;
         up = none;
         below = omega arith;
-        some = omega (arith, t .some);
         written = end-bytes bytes n h (t .is) (t .last) ∙ rw (add-zero n);
       })
 
@@ -152,7 +149,7 @@ read-written-by s number runs h (rec.End count) e a = absurd (refused-accepted _
 read-written-by s number runs h (rec.Head k) e a =
     let rest = rest-from 33 k 5 0 0 (drop 5 s) number runs (bytes-drop 5 s h) (omega arith) a in
     let head = head-bytes s number h (e ∙ ap rec.Head (rest .same)) in (
-      rising-well-formed number runs (head .0) (omega (arith, rest .some)) (omega (arith, rest .below)) (rest .up),
+      rising-well-formed number runs (head .0) (omega (arith, rest .below)) (rest .up),
       head .1 ∙ ap (λ l. (0x48 ∷ bytes4 number) ++ l) (rest .written ∙ rw (zero-add (length runs))),
     )
 

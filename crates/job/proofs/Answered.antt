@@ -1,20 +1,18 @@
 -- What the layers above learn of a reading: from the parsed job to the answer, and from the answer to the parsed job.
 -- Assumes nothing.
-use Prim.Native.Nat.{ℕ, _≤_}
+use Prim.Native.Nat.{ℕ}
 use mathlib.Core.Path.{_≡_, refl, ap, _∙_}
 use mathlib.Core.List.{List, []}
 use native.Mathlib.Omega.{arith}
 use Rattle.job.specs.declared.Run.{Run}
 use Rattle.job.specs.declared.Refusal.{Refusal}
-use Rattle.job.specs.declared.Refusal.the-variants.{ShortWork, ShortPlan, Cut, UnknownKind, Misplaced, WrongCount, WrongNumber, OutOfRange, TooManyRuns, NoRuns, NoStar}
 use Rattle.job.specs.declared.Answer.{Answer}
 use Rattle.job.specs.declared.Reading.{Reading}
 use Rattle.job.specs.declared.Answer.the-variants.{Accepted, Refused}
 use Rattle.job.specs.Parse.{Parsed, accepted, refused, parse}
-use Rattle.job.specs.Refusal.{refusalNumber}
 use Rattle.job.specs.Reading.{answerNumber, answerPlace, jobOf, numberSaid, placeSaid, jobSaid, Reads}
 use Rattle.job.specs.Written.{Bytes, WellFormed}
-use Rattle.job.proofs.Order.{same-refusal}
+use Rattle.job.proofs.Order.{same-refusal, refusal-numbers}
 use Rattle.job.proofs.Accepted.{accepted-well-formed}
 
 -- the answer and the job beside it, of what the bytes say
@@ -22,25 +20,11 @@ abbrev pub readingBy : Parsed → Reading
 readingBy (accepted number runs) = record { answer = Accepted; job = jobOf number runs }
 readingBy (refused x) = record { answer = Refused x; job = jobOf 0 [] }
 
--- a refusal's number is not 0
-number-some : (x : Refusal) → 1 ≤ refusalNumber x
-number-some ShortWork = omega arith
-number-some ShortPlan = omega arith
-number-some (Cut p) = omega arith
-number-some (UnknownKind p) = omega arith
-number-some (Misplaced p) = omega arith
-number-some (WrongCount p) = omega arith
-number-some (WrongNumber p) = omega arith
-number-some (OutOfRange p) = omega arith
-number-some (TooManyRuns p) = omega arith
-number-some (NoRuns p) = omega arith
-number-some NoStar = omega arith
-
 -- number and place tell the answer
 answer-by : (a : Answer) (p : Parsed) → answerNumber a ≡ numberSaid p → answerPlace a ≡ placeSaid p → a ≡ readingBy p .answer
 answer-by Accepted (accepted number runs) n q = refl
-answer-by Accepted (refused x) n q = absurd (omega (arith, number-some x))
-answer-by (Refused x) (accepted number runs) n q = absurd (omega (arith, number-some x))
+answer-by Accepted (refused x) n q = absurd (omega (arith, refusal-numbers x))
+answer-by (Refused x) (accepted number runs) n q = absurd (omega (arith, refusal-numbers x))
 answer-by (Refused x) (refused y) n q = ap Refused (same-refusal x y n q)
 
 -- the job is that of the reading

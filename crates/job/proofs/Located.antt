@@ -9,9 +9,9 @@ use mathlib.Core.List.{List}
 use native.Mathlib.Omega.{arith}
 use lib.ListN.{length, getD}
 use Rattle.job.specs.declared.Refusal.{Refusal}
-use Rattle.job.specs.declared.Refusal.the-variants.{ShortWork, ShortPlan, Cut, UnknownKind, Misplaced, WrongCount, WrongNumber, OutOfRange, TooManyRuns, NoRuns, NoStar}
+use Rattle.job.specs.declared.Refusal.the-variants.{ShortWork, ShortPlan, Cut, UnknownKind, Misplaced, WrongCount, WrongNumber, OutOfRange, TooManyRuns, NoStar}
 use Rattle.job.specs.Refusal.{refusalPlace}
-use Rattle.job.specs.Applies.{head, run, end, Starts, Whole, place, Behind, numberAt, AppliesIn, cut-inside, cut-before-end, unknown-kind, no-head, second-head, after-end, wrong-count, number-zero, number-above, not-rising, out-of-range, run-33, no-runs}
+use Rattle.job.specs.Applies.{head, run, end, Starts, Whole, place, Behind, numberAt, AppliesIn, cut-inside, cut-before-end, unknown-kind, no-head, second-head, after-end, wrong-count, number-zero, number-above, not-rising, out-of-range, run-33}
 use Rattle.job.specs.Order.{stageOf, turnOf, Sooner, by-stage, by-place, by-turn, FirstOf}
 use Rattle.job.proofs.Decoded.{CutAt, inside, before-end, UnknownAt}
 use Rattle.job.proofs.There.{coordinateAt, whole-uncut, whole-known}
@@ -42,7 +42,6 @@ Here s n p (WrongCount q) = Whole end s p × (numberAt s p ≡ n → ⊥)
 Here s n p (WrongNumber q) = Whole run s p × WrongNumberAt s n p
 Here s n p (OutOfRange q) = Whole run s p × OutOfRangeAt s p
 Here s n p (TooManyRuns q) = (n ≡ 32) × Starts run s p
-Here s n p (NoRuns q) = (n ≡ 0) × Starts end s p
 Here s n p NoStar = ⊥
 
 module _ (s : List ℕ) (n p : ℕ) (b : Behind s n p) where
@@ -68,7 +67,6 @@ module _ (s : List ℕ) (n p : ℕ) (b : Behind s n p) where
   applies-here (WrongNumber q) e h = rw (← e) (number-applies (h .0) (h .1))
   applies-here (OutOfRange q) e h = rw (← e) (out-of-range (h .1 .which) b (h .0) (h .1 .one) (h .1 .far))
   applies-here (TooManyRuns q) e h = rw (← e) (run-33 (rw (h .0) at b) (h .1))
-  applies-here (NoRuns q) e h = rw (← e) (no-runs (rw (h .0) at b) (h .1))
   applies-here NoStar e h = absurd h
 
 -- what applies where a head stands first: a record behind it is wrong, or a byte stands behind the end
@@ -93,7 +91,6 @@ found s w x (number-above b h l) = nth _ _ b refl (h, above l)
 found s w x (not-rising b h l) = nth _ _ b refl (h, not-above _ refl l)
 found s w x (out-of-range i b h l f) = nth _ _ b refl (h, record { which = i; one = l; far = f })
 found s w x (run-33 b h) = nth 32 _ b refl (refl, h)
-found s w x (no-runs b h) = nth 0 _ b refl (refl, h)
 
 -- all refusals of the bytes are of one stage
 pub one-stage : (s : List ℕ) (x : Refusal) → AppliesIn s x → stageOf x ≡ stageOf (Cut 0)
@@ -109,7 +106,6 @@ one-stage s x (number-above b h l) = refl
 one-stage s x (not-rising b h l) = refl
 one-stage s x (out-of-range i b h l f) = refl
 one-stage s x (run-33 b h) = refl
-one-stage s x (no-runs b h) = refl
 
 -- ---- the runs before a record are right
 
@@ -156,7 +152,6 @@ module _ (s : List ℕ) (n p last : ℕ) (h : Passed s n p last) where
   settled m l (WrongNumber q) d = h .right m l .numbered (d .1)
   settled m l (OutOfRange q) d = h .right m l .ranged (d .1)
   settled m l (TooManyRuns q) d = omega (arith, d .0, h .most)
-  settled m l (NoRuns q) d = run-end s (place m) (h .behind .runs m l) (d .1)
   settled m l NoStar d = d
 
   -- the run at p, where the bytes go on behind it

@@ -1,7 +1,7 @@
 -- The order of the refusals: number and place tell two refusals apart, and of two that differ one comes sooner. A refusal can be looked up by
--- its number and place, so what agrees in both is one refusal; and its number by its stage and turn.
+-- its number and place, so what agrees in both is one refusal; and its number by its stage and turn. Which numbers there are is said once, here.
 -- Assumes nothing.
-use Prim.Native.Nat.{ℕ, _<_}
+use Prim.Native.Nat.{ℕ, _<_, _≤_}
 use mathlib.Core.Path.{_≡_, refl, sym, ap₂, _∙_}
 use mathlib.Core.Logic.{_⊎_, inl, inr}
 use mathlib.Core.List.{[], _∷_}
@@ -9,15 +9,15 @@ use native.Mathlib.Omega.{arith}
 use native.Mathlib.Decide.{decLt}
 use lib.ListN.{getD}
 use Rattle.job.specs.declared.Refusal.{Refusal}
-use Rattle.job.specs.declared.Refusal.the-variants.{ShortWork, ShortPlan, Cut, UnknownKind, Misplaced, WrongCount, WrongNumber, OutOfRange, TooManyRuns, NoRuns, NoStar}
+use Rattle.job.specs.declared.Refusal.the-variants.{ShortWork, ShortPlan, Cut, UnknownKind, Misplaced, WrongCount, WrongNumber, OutOfRange, TooManyRuns, NoStar}
 use Rattle.job.specs.Refusal.{refusalNumber, refusalPlace}
 use Rattle.job.specs.Order.{order, stageOf, turnOf, Sooner, by-stage, by-place, by-turn}
 
--- the refusal with a number and a place
+-- the refusal with a number and a place, 11 where no other has the number
 abbrev refusalAt : (number p : ℕ) → Refusal
 refusalAt number p =
     getD
-    (NoStar ∷ ShortWork ∷ ShortPlan ∷ Cut p ∷ UnknownKind p ∷ Misplaced p ∷ WrongCount p ∷ WrongNumber p ∷ OutOfRange p ∷ TooManyRuns p ∷ NoRuns p ∷ [])
+    (NoStar ∷ ShortWork ∷ ShortPlan ∷ Cut p ∷ UnknownKind p ∷ Misplaced p ∷ WrongCount p ∷ WrongNumber p ∷ OutOfRange p ∷ TooManyRuns p ∷ [])
     number NoStar
 
 -- every refusal is the one with its number and place
@@ -31,12 +31,24 @@ refusal-at (WrongCount p) = refl
 refusal-at (WrongNumber p) = refl
 refusal-at (OutOfRange p) = refl
 refusal-at (TooManyRuns p) = refl
-refusal-at (NoRuns p) = refl
 refusal-at NoStar = refl
 
 -- refusals with one number and one place are the same
 pub same-refusal : (x y : Refusal) → refusalNumber x ≡ refusalNumber y → refusalPlace x ≡ refusalPlace y → x ≡ y
 same-refusal x y n p = sym (refusal-at x) ∙ ap₂ refusalAt n p ∙ refusal-at y
+
+-- refusals have the numbers 1 to 11, and none has 10
+pub refusal-numbers : (x : Refusal) → (1 ≤ refusalNumber x) × (refusalNumber x ≤ 11) × (refusalNumber x ≡ 10 → ⊥)
+refusal-numbers ShortWork = (omega arith, omega arith, λ e. omega arith)
+refusal-numbers ShortPlan = (omega arith, omega arith, λ e. omega arith)
+refusal-numbers (Cut p) = (omega arith, omega arith, λ e. omega arith)
+refusal-numbers (UnknownKind p) = (omega arith, omega arith, λ e. omega arith)
+refusal-numbers (Misplaced p) = (omega arith, omega arith, λ e. omega arith)
+refusal-numbers (WrongCount p) = (omega arith, omega arith, λ e. omega arith)
+refusal-numbers (WrongNumber p) = (omega arith, omega arith, λ e. omega arith)
+refusal-numbers (OutOfRange p) = (omega arith, omega arith, λ e. omega arith)
+refusal-numbers (TooManyRuns p) = (omega arith, omega arith, λ e. omega arith)
+refusal-numbers NoStar = (omega arith, omega arith, λ e. omega arith)
 
 -- the number at a stage and a turn
 abbrev numberIn : (stage turn : ℕ) → ℕ
@@ -53,7 +65,6 @@ number-in (WrongCount p) = refl
 number-in (WrongNumber p) = refl
 number-in (OutOfRange p) = refl
 number-in (TooManyRuns p) = refl
-number-in (NoRuns p) = refl
 number-in NoStar = refl
 
 -- two numbers, one of which is less unless they are equal

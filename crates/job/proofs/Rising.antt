@@ -47,6 +47,5 @@ pub well-formed-rising : (number : ℕ) (runs : List Run) → WellFormed number 
 well-formed-rising number runs w = rising-from 0 runs (w .in-range) (w .rising) (λ h. w .in-range 0 h .least)
 
 -- runs that rise from above 0 are a well formed job's
-pub rising-well-formed : (number : ℕ) (runs : List Run) → number < 2 ^ 32 → 1 ≤ length runs → length runs ≤ 32 → Rising 0 runs → WellFormed number runs
-rising-well-formed number runs f s m h =
-    record { fits = f; some = s; most = m; in-range = rising-range h; rising = rising-order h }
+pub rising-well-formed : (number : ℕ) (runs : List Run) → number < 2 ^ 32 → length runs ≤ 32 → Rising 0 runs → WellFormed number runs
+rising-well-formed number runs f m h = record { fits = f; most = m; in-range = rising-range h; rising = rising-order h }

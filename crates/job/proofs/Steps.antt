@@ -5,7 +5,7 @@ use mathlib.Core.Path.{_≡_, refl, sym, ap}
 use mathlib.Core.List.{List}
 use mathlib.Core.Bool.{Bool, true, false, cond, not, _&&_, and-eq-true-iff}
 use native.Mathlib.Omega.{arith}
-use borrow.Author.Tests.{ltb-true, leb-true, leb-false, ltb-false, eqb-true, eqb-false, not-false}
+use borrow.Author.Tests.{ltb-true, leb-true, leb-false, ltb-false, eqb-true, not-false}
 use lib.Dec.{ltb, leb, eqb}
 use lib.ListN.{length}
 use Rattle.job.specs.declared.Run.{Run}
@@ -82,10 +82,9 @@ taken-run at n last q r e =
       range = record { least = f .least; most = f .most; x1-in = g .x1-in; y1-in = g .y1-in; x2-in = g .x2-in; y2-in = g .y2-in };
     })
 
--- an end that is reached: its count is that of the runs before it, of which there is one, and no byte comes after it
+-- an end that is reached: its count is that of the runs before it, and no byte comes after it
 pub record Ended (n : ℕ) (bytes : List ℕ) (g : Record) : Type 0 where
   pub is : g ≡ rec.End n
-  pub some : 1 ≤ n
   pub last : length bytes ≤ 3
 
 -- an end record that ends the job passes the tests of `endStep`
@@ -93,13 +92,8 @@ ended-end : (at n count : ℕ) (bytes : List ℕ) → endStep at n count bytes �
 unfolding endStep
 ended-end at n count bytes e =
     let a = passed (not (eqb count n)) _ _ _ e (refuse-end _) in
-    let b = passed (eqb n 0) _ _ _ (a .1) (refuse-end _) in
-    let c = passed (ltb 3 (length bytes)) _ _ _ (b .1) (refuse-end _) in
-    record {
-      is = ap rec.End (eqb-true count n (not-false _ (a .0)));
-      some = let z = eqb-false n 0 (b .0) in omega (arith, z);
-      last = ltb-false _ _ (c .0);
-    }
+    let b = passed (ltb 3 (length bytes)) _ _ _ (a .1) (refuse-end _) in
+    record { is = ap rec.End (eqb-true count n (not-false _ (a .0))); last = ltb-false _ _ (b .0) }
 
 -- a run is no end
 next-end : (r : Run) → Next r ≡ End → ⊥
@@ -117,8 +111,7 @@ end-next : (at n count : ℕ) (bytes : List ℕ) (r : Run) → endStep at n coun
 unfolding endStep
 end-next at n count bytes r e =
     let a = passed (not (eqb count n)) _ _ _ e (refuse-next _ r) in
-    let b = passed (eqb n 0) _ _ _ (a .1) (refuse-next _ r) in
-    next-end r (sym (passed (ltb 3 (length bytes)) _ _ _ (b .1) (refuse-next _ r) .1))
+    next-end r (sym (passed (ltb 3 (length bytes)) _ _ _ (a .1) (refuse-next _ r) .1))
 
 -- one more run is a run record that passes the tests 9, 7 and 8
 pub taken : (at n last : ℕ) (bytes : List ℕ) (g : Record) (r : Run) → stepBy at n last bytes g ≡ Next r → Taken n last g r
@@ -129,7 +122,7 @@ taken at n last bytes (rec.Head number) r e = absurd (refuse-next _ r e)
 taken at n last bytes (rec.Run q) r e = taken-run at n last q r e
 taken at n last bytes (rec.End count) r e = absurd (end-next at n count bytes r e)
 
--- the end is an end record that passes the tests 6, 10 and 5
+-- the end is an end record that passes the tests 6 and 5
 pub ended : (at n last : ℕ) (bytes : List ℕ) (g : Record) → stepBy at n last bytes g ≡ End → Ended n bytes g
 unfolding stepBy
 ended at n last bytes rec.Unknown e = absurd (refuse-end _ e)

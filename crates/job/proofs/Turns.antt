@@ -13,7 +13,7 @@ use lib.ListN.{length, drop, length-drop}
 use Rattle.job.specs.declared.Record.{Record}
 use Rattle.job.specs.declared.Record.the-variants as rec
 use Rattle.job.specs.declared.Refusal.{Refusal}
-use Rattle.job.specs.declared.Refusal.the-variants.{ShortWork, ShortPlan, Cut, UnknownKind, Misplaced, WrongCount, WrongNumber, OutOfRange, TooManyRuns, NoRuns, NoStar}
+use Rattle.job.specs.declared.Refusal.the-variants.{ShortWork, ShortPlan, Cut, UnknownKind, Misplaced, WrongCount, WrongNumber, OutOfRange, TooManyRuns, NoStar}
 use Rattle.job.specs.declared.Step.{Step}
 use Rattle.job.specs.declared.Step.the-variants.{Next, End, Refuse}
 use Rattle.job.specs.Applies.{Kind, head, run, end, Whole, place, numberAt, AppliesIn, after-end}
@@ -134,18 +134,13 @@ module _ (s : List ℕ) (p : ℕ) where
   sort n (WrongNumber q) d = rest (omega arith)
   sort n (OutOfRange q) d = rest (omega arith)
   sort n (TooManyRuns q) d = rest (omega arith)
-  sort n (NoRuns q) d = rest (omega arith)
   sort n NoStar d = absurd d
 
--- what can be wrong with a whole run, and with a whole end
+-- what can be wrong with a whole run
 data RunFault (s : List ℕ) (n p : ℕ) (x : Refusal) : Type 0 where
   too-many : turnOf x ≡ turnOf (TooManyRuns p) → n ≡ 32 → RunFault s n p x
   misnumbered : turnOf x ≡ turnOf (WrongNumber p) → WrongNumberAt s n p → RunFault s n p x
   ranging : turnOf x ≡ turnOf (OutOfRange p) → RunFault s n p x
-
-data EndFault (s : List ℕ) (n p : ℕ) (x : Refusal) : Type 0 where
-  miscounted : turnOf x ≡ turnOf (WrongCount p) → (numberAt s p ≡ n → ⊥) → EndFault s n p x
-  empty : turnOf x ≡ turnOf (NoRuns p) → n ≡ 0 → EndFault s n p x
 
 module _ (s : List ℕ) (n p last : ℕ) (h : Passed s n p last) where
   -- a whole run can only be one too many, or have a wrong number, or a coordinate out of range
@@ -159,21 +154,19 @@ module _ (s : List ℕ) (n p last : ℕ) (h : Passed s n p last) where
   run-fault w (WrongNumber q) d = misnumbered refl (d .1)
   run-fault w (OutOfRange q) d = ranging refl
   run-fault w (TooManyRuns q) d = too-many refl (d .0)
-  run-fault w (NoRuns q) d = absurd (run-end s p w (d .1))
   run-fault w NoStar d = absurd d
 
-  -- a whole end can only have a wrong count, or no run before it
-  end-fault : Whole end s p → (y : Refusal) → Here s n p y → EndFault s n p y
+  -- a whole end can only have a wrong count
+  end-fault : Whole end s p → (y : Refusal) → Here s n p y → (turnOf (WrongCount p) ≤ turnOf y) × (numberAt s p ≡ n → ⊥)
   end-fault w ShortWork d = absurd d
   end-fault w ShortPlan d = absurd d
   end-fault w (Cut q) d = absurd (whole-uncut end s p w d)
   end-fault w (UnknownKind q) d = absurd (whole-known end s p w d)
   end-fault w (Misplaced q) d = absurd (omega (arith, w .0 .1, d .1))
-  end-fault w (WrongCount q) d = miscounted refl (d .1)
+  end-fault w (WrongCount q) d = (omega arith, d .1)
   end-fault w (WrongNumber q) d = absurd (run-end s p (d .0) (w .0))
   end-fault w (OutOfRange q) d = absurd (run-end s p (d .0) (w .0))
   end-fault w (TooManyRuns q) d = absurd (omega (arith, w .0 .1, d .1 .1))
-  end-fault w (NoRuns q) d = empty refl (d .0)
   end-fault w NoStar d = absurd d
 
   -- of what can be wrong with a run, 9 comes first
@@ -193,16 +186,6 @@ module _ (s : List ℕ) (n p last : ℕ) (h : Passed s n p last) where
   least-eight l f y (too-many t e) = absurd (omega arith)
   least-eight l f y (misnumbered t e) = absurd (f e)
   least-eight l f y (ranging t) = omega arith
-
-  -- of what can be wrong with an end, 6 comes first
-  least-six : (y : Refusal) → EndFault s n p y → turnOf (WrongCount p) ≤ turnOf y
-  least-six y (miscounted t e) = omega arith
-  least-six y (empty t e) = omega arith
-
-  -- then 10
-  least-ten : numberAt s p ≡ n → (y : Refusal) → EndFault s n p y → turnOf (NoRuns p) ≤ turnOf y
-  least-ten c y (miscounted t e) = absurd (e c)
-  least-ten c y (empty t e) = omega arith
 
   -- one more run that is right
   passed-more : Whole run s p → n < 32 → (WrongNumberAt s n p → ⊥) → (OutOfRangeAt s p → ⊥) → Passed s (suc n) (p + 19) (numberAt s p)
@@ -238,15 +221,11 @@ module _ (s : List ℕ) (n p last : ℕ) (h : Passed s n p last) where
       (λ c. passed-more w (leb-false _ _ a) f (range-right s p (coordinates-true (runAt s p) (not-false _ c))))))
 
   -- an end with which nothing is wrong: whatever applies is the byte behind it
-  only-behind : Whole end s p → numberAt s p ≡ n → 1 ≤ n → (x : Refusal) → AppliesIn s x → (x ≡ Misplaced (p + 3)) × (p + 3 < length s)
-  only-behind w c l x a = go (locate s n p last h x a)
+  only-behind : Whole end s p → numberAt s p ≡ n → (x : Refusal) → AppliesIn s x → (x ≡ Misplaced (p + 3)) × (p + 3 < length s)
+  only-behind w c x a = go (locate s n p last h x a)
     where
-      wrong : EndFault s n p x → ⊥
-      wrong (miscounted t e) = e c
-      wrong (empty t e) = omega arith
-
       go : Located s n p x → (x ≡ Misplaced (p + 3)) × (p + 3 < length s)
-      go (here e d) = absurd (wrong (end-fault w x d))
+      go (here e d) = absurd (end-fault w x d .1 c)
       go (later e r) = absurd (run-end s p r (w .0))
       go (behind e r f) = (e, f)
 
@@ -255,19 +234,15 @@ module _ (s : List ℕ) (n p last : ℕ) (h : Passed s n p last) where
   unfolding endStep
   end-told w =
       by-test (Told s n p) (not (eqb (numberAt s p) n))
-      (λ t. first-here s n p last h (WrongCount p) refl (w, eqb-false _ _ (not-true _ t)) (λ y d. least-six y (end-fault w y d)))
+      (λ t. first-here s n p last h (WrongCount p) refl (w, eqb-false _ _ (not-true _ t)) (λ y d. end-fault w y d .0))
       (λ a.
       let c = eqb-true (numberAt s p) n (not-false _ a) in
-      by-test (Told s n p) (eqb n 0)
-      (λ t. first-here s n p last h (NoRuns p) refl (eqb-true n 0 t, w .0) (λ y d. least-ten c y (end-fault w y d)))
-      (λ b.
-      let some : 1 ≤ n = (let z = eqb-false n 0 b in omega (arith, z)) in
       by-test (Told s n p) (ltb 3 (length (drop p s)))
       (λ t. record {
         applies = after-end (h .behind) w (omega (arith, ltb-true 3 (length (drop p s)) t, length-drop p s));
-        first = λ y g q. sooner-self (Misplaced (p + 3)) (subst (λ (z : Refusal). Sooner z (Misplaced (p + 3))) (only-behind w c some y g .0) q);
+        first = λ y g q. sooner-self (Misplaced (p + 3)) (subst (λ (z : Refusal). Sooner z (Misplaced (p + 3))) (only-behind w c y g .0) q);
       })
-      (λ t x g. omega (arith, only-behind w c some x g .1, ltb-false 3 (length (drop p s)) t, length-drop p s))))
+      (λ t x g. omega (arith, only-behind w c x g .1, ltb-false 3 (length (drop p s)) t, length-drop p s)))
 
   -- any record
   pub step-told : (g : Record) → There s p g → Told s n p (stepBy p n last (drop p s) g)

@@ -5,7 +5,7 @@ use mathlib.Core.Path.{_≡_, refl, ap, _∙_}
 use mathlib.Core.List.{List, [], _∷_, _++_}
 use native.Mathlib.Omega.{arith}
 use native.Mathlib.Nat.{add-zero, zero-add}
-use borrow.Author.Tests.{lt-ltb, le-ltb, le-leb, lt-leb, eq-eqb, ne-eqb}
+use borrow.Author.Tests.{lt-ltb, le-ltb, le-leb, lt-leb, eq-eqb}
 use lib.ListN.{length, drop}
 use Rattle.job.specs.declared.Run.{Run}
 use Rattle.job.specs.declared.Record.the-variants as rec
@@ -62,9 +62,9 @@ run-taken at n last r below up h =
     )
 
 -- an end with the count of the runs before it, and no byte after it, is reached
-end-reached : (at n : ℕ) (bytes : List ℕ) → 1 ≤ n → length bytes ≤ 3 → endStep at n n bytes ≡ End
+end-reached : (at n : ℕ) (bytes : List ℕ) → length bytes ≤ 3 → endStep at n n bytes ≡ End
 unfolding endStep
-end-reached at n bytes some last = simp (eq-eqb n n refl, ne-eqb n 0 (λ e. omega arith), le-ltb 3 (length bytes) last)
+end-reached at n bytes last = simp (eq-eqb n n refl, le-ltb 3 (length bytes) last)
 
 -- a written run is taken
 step-taken : (at n last : ℕ) (r : Run) (rest : List ℕ) → n < 32 → last < r .number → InRange r → stepOf at n last (runBytes r ++ rest) ≡ Next r
@@ -72,23 +72,23 @@ unfolding stepBy
 step-taken at n last r rest below up h = ap (stepBy at n last (runBytes r ++ rest)) (run-back r h rest) ∙ run-taken at n last r below up h
 
 -- a written end is reached
-step-reached : (at n last : ℕ) → 1 ≤ n → n ≤ 32 → stepOf at n last (0x5A ∷ bytes2 n) ≡ End
+step-reached : (at n last : ℕ) → n ≤ 32 → stepOf at n last (0x5A ∷ bytes2 n) ≡ End
 unfolding stepBy
-step-reached at n last some most =
-    ap (stepBy at n last (0x5A ∷ bytes2 n)) (end-back n (omega arith)) ∙ end-reached at n (0x5A ∷ bytes2 n) some (omega arith)
+step-reached at n last most =
+    ap (stepBy at n last (0x5A ∷ bytes2 n)) (end-back n (omega arith)) ∙ end-reached at n (0x5A ∷ bytes2 n) (omega arith)
 
 -- runs that rise, and the end after them, are read back after n runs
-runs-back : (records number at n last : ℕ) (runs : List Run) → Rising last runs → length runs < records → n + length runs ≤ 32 → 1 ≤ n + length runs
+runs-back : (records number at n last : ℕ) (runs : List Run) → Rising last runs → length runs < records → n + length runs ≤ 32
     → readFrom records number at n last (runsBytes runs ++ (0x5A ∷ bytes2 (n + length runs))) ≡ accepted number runs
 unfolding readFrom runsBytes
-runs-back zero number at n last runs up fuel below some = absurd (omega arith)
-runs-back (suc records) number at n last [] none fuel below some =
-    rw (add-zero n) (ap (proceed number _) (step-reached at n last (omega arith) (omega arith)))
-runs-back (suc records) number at n last (r ∷ runs) (more rises range rest) fuel below some =
+runs-back zero number at n last runs up fuel below = absurd (omega arith)
+runs-back (suc records) number at n last [] none fuel below =
+    rw (add-zero n) (ap (proceed number _) (step-reached at n last (omega arith)))
+runs-back (suc records) number at n last (r ∷ runs) (more rises range rest) fuel below =
     let e : n + suc (length runs) ≡ suc n + length runs = omega arith in
     rw e
     (ap (proceed number _) (step-taken at n last r (runsBytes runs ++ (0x5A ∷ bytes2 (suc n + length runs))) (omega arith) rises range)
-    ∙ ap (withFirst r) (runs-back records number (at + 19) (suc n) (r .number) runs rest (omega arith) (omega arith) (omega arith)))
+    ∙ ap (withFirst r) (runs-back records number (at + 19) (suc n) (r .number) runs rest (omega arith) (omega arith)))
 
 -- the bytes of a well formed job are read as that job
 pub written-read : (number : ℕ) (runs : List Run) → WellFormed number runs → parse (bytesOf number runs) ≡ accepted number runs
@@ -96,4 +96,4 @@ unfolding parse firstBy bytesOf
 written-read number runs w =
     let end = runsBytes runs ++ (0x5A ∷ bytes2 (length runs)) in
     ap (λ g. firstBy g end) (head-back number (w .fits) end)
-    ∙ rw (zero-add (length runs)) at (runs-back 33 number 5 0 0 runs (well-formed-rising number runs w) (omega (arith, w .most)) (omega (arith, w .most)) (omega (arith, w .some)))
+    ∙ rw (zero-add (length runs)) at (runs-back 33 number 5 0 0 runs (well-formed-rising number runs w) (omega (arith, w .most)) (omega (arith, w .most)))

@@ -1,6 +1,6 @@
--- When a refusal of the bytes applies: the list 3 to 10 of document 01, "What a call says and leaves", each number by itself, for every place.
--- Nothing is read in order here, and several can apply, also to one record: a record need not be whole to be misplaced (5), one run too many (9)
--- or an end with no runs (10), so 3 can apply beside them. Which of those that apply is given, `Order` says.
+-- When a refusal of the bytes applies: the list 3 to 9 of document 01, "What a call says and leaves", each number by itself, for every place.
+-- Nothing is read in order here, and several can apply, also to one record: a record need not be whole to be misplaced (5) or one run too many (9),
+-- so 3 can apply beside them. Which of those that apply is given, `Order` says.
 -- Assumes nothing.
 use Prim.Native.Nat.{ℕ, suc, _+_, _*_, _<_, _≤_}
 use mathlib.Core.Path.{_≡_}
@@ -9,7 +9,7 @@ use mathlib.Core.List.{List}
 use lib.ListN.{length, getD}
 use Rattle.job.specs.Fields.{word2, word4, biasedOf}
 use Rattle.job.specs.declared.Refusal.{Refusal}
-use Rattle.job.specs.declared.Refusal.the-variants.{Cut, UnknownKind, Misplaced, WrongCount, WrongNumber, OutOfRange, TooManyRuns, NoRuns}
+use Rattle.job.specs.declared.Refusal.the-variants.{Cut, UnknownKind, Misplaced, WrongCount, WrongNumber, OutOfRange, TooManyRuns}
 
 -- "Each record is one byte of kind, then a body whose length the kind fixes": the kinds, their bytes, and how many bytes a record has, the
 -- kind byte among them.
@@ -69,5 +69,3 @@ pub data AppliesIn (s : List ℕ) : Refusal → Type 0 where
   out-of-range : {n p : ℕ} (i : ℕ) → Behind s n p → Whole run s p → i < 4 → 2000000 < biasedOf (word4 s (p + 3 + 4 * i)) → AppliesIn s (OutOfRange p)
   -- 9: "a 33rd run"
   run-33 : {p : ℕ} → Behind s 32 p → Starts run s p → AppliesIn s (TooManyRuns p)
-  -- 10: "an end with no runs"
-  no-runs : {p : ℕ} → Behind s 0 p → Starts end s p → AppliesIn s (NoRuns p)

@@ -1,5 +1,5 @@
 -- Reading a job, as the contracts cite it: one head, then the runs, then one end, and no byte after it; the tests of a record are made in the
--- order 4, 3, 5, 9, 7, 8, 6, 10. What it comes to is said without reading in `Written` (by `accepted-iff`), `Applies` and `Order` (by
+-- order 4, 3, 5, 9, 7, 8, 6. What it comes to is said without reading in `Written` (by `accepted-iff`), `Applies` and `Order` (by
 -- `first-applies` and `none-applies`).
 -- Assumes nothing.
 use Prim.Native.Nat.{ℕ, zero, suc, _+_}
@@ -12,7 +12,7 @@ use Rattle.job.specs.declared.Run.{Run}
 use Rattle.job.specs.declared.Record.{Record}
 use Rattle.job.specs.declared.Record.the-variants as rec
 use Rattle.job.specs.declared.Refusal.{Refusal}
-use Rattle.job.specs.declared.Refusal.the-variants.{Cut, UnknownKind, Misplaced, WrongCount, WrongNumber, OutOfRange, TooManyRuns, NoRuns}
+use Rattle.job.specs.declared.Refusal.the-variants.{Cut, UnknownKind, Misplaced, WrongCount, WrongNumber, OutOfRange, TooManyRuns}
 use Rattle.job.specs.declared.Step.{Step}
 use Rattle.job.specs.declared.Step.the-variants.{Next, End, Refuse}
 
@@ -39,12 +39,11 @@ runStep at n last r =
     (cond (not (follows last (r .number))) (Refuse (WrongNumber at))
     (cond (not (coordinatesIn r)) (Refuse (OutOfRange at)) (Next r)))
 
--- an end: 6, then 10; then 5 for a byte after it, at that byte
+-- an end: 6; then 5 for a byte after it, at that byte
 unfoldable pub endStep : (at n count : ℕ) → List ℕ → Step
 endStep at n count bytes =
     cond (not (eqb count n)) (Refuse (WrongCount at))
-    (cond (eqb n 0) (Refuse (NoRuns at))
-    (cond (ltb 3 (length bytes)) (Refuse (Misplaced (at + 3))) End))
+    (cond (ltb 3 (length bytes)) (Refuse (Misplaced (at + 3))) End)
 
 -- any record: 4, then 3, then 5, then what its kind asks
 unfoldable pub stepBy : (at n last : ℕ) → List ℕ → Record → Step

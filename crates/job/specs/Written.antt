@@ -44,10 +44,9 @@ pub record InRange (r : Run) : Type 0 where
   pub x2-in : r .x2 ≤ 2000000
   pub y2-in : r .y2 ≤ 2000000
 
--- the job number has 32 bits, there are 1 to 32 runs, each in range, and their numbers rise strictly
+-- the job number has 32 bits, there are at most 32 runs (none in a blank job: document 02, C-11), each in range, and their numbers rise strictly
 pub record WellFormed (number : ℕ) (runs : List Run) : Type 0 where
   pub fits : number < 2 ^ 32
-  pub some : 1 ≤ length runs
   pub most : length runs ≤ 32
   pub in-range : (k : ℕ) → k < length runs → InRange (getD runs k noRun)
   pub rising : (j k : ℕ) → j < k → k < length runs → getD runs j noRun .number < getD runs k noRun .number

@@ -10,7 +10,7 @@ ghost use Rattle.job.specs.Branches.{NotRun, NotHead};
 ghost use Rattle.job.specs.Parse.{follows, coordinatesIn, runStep, endStep, stepBy, stepOf, refused, firstBy};
 ghost use Rattle.job.specs.Reading.{jobOf, Reads};
 
-// Why a call is refused: document 01's numbers 1 to 11 in this order. A case that has a place holds it.
+// Why a call is refused: document 01's numbers 1 to 9 and 11 in this order. A case that has a place holds it.
 pub enum Refusal {
     ShortWork,
     ShortPlan,
@@ -21,7 +21,6 @@ pub enum Refusal {
     WrongNumber(usize),
     OutOfRange(usize),
     TooManyRuns(usize),
-    NoRuns(usize),
     NoStar,
 }
 
@@ -87,7 +86,6 @@ pub fn refusal_number(refusal: Refusal) -> u32
         Refusal::WrongNumber(_) => 7,
         Refusal::OutOfRange(_) => 8,
         Refusal::TooManyRuns(_) => 9,
-        Refusal::NoRuns(_) => 10,
         Refusal::NoStar => 11,
     }
 }
@@ -106,7 +104,6 @@ pub fn refusal_place(refusal: Refusal) -> usize
         Refusal::WrongNumber(at) => at,
         Refusal::OutOfRange(at) => at,
         Refusal::TooManyRuns(at) => at,
-        Refusal::NoRuns(at) => at,
         Refusal::NoStar => 0,
     }
 }
@@ -228,9 +225,6 @@ fn end_step(count: u32, job: &[u8], at: usize, n: usize) -> Step
     if count as usize != n {
         return Step::Refuse(Refusal::WrongCount(at));
     }
-    if n == 0 {
-        return Step::Refuse(Refusal::NoRuns(at));
-    }
     if 3 < job.len() - at {
         return Step::Refuse(Refusal::Misplaced(at + 3));
     }
@@ -303,7 +297,7 @@ fn refusing(refusal: Refusal) -> Reading
     }
 }
 
-// Reads a job: the job, or the first refusal from 3 to 10 that applies.
+// Reads a job: the job, or the first refusal from 3 to 9 that applies.
 pub fn read(job: &[u8]) -> Reading
     ensures { λ r. ⌜ Reads (now (job .entry)) r ⌝ }
 {

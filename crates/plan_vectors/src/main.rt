@@ -277,6 +277,24 @@ fn one_point() {
     show(head, &numbers, &meets, routes, 1, &columns, &rows);
 }
 
+// A job without runs: a head and an end.
+fn no_runs() {
+    let columns = [0u32; 64];
+    let rows = [0u32; 64];
+    let numbers = [0u32; 32];
+    let meets = [0u32; 32];
+    let routes = [route_of(b"", 0, 0, true, true); 32];
+    let head = Head {
+        job: 7,
+        runs: 0,
+        trench: 0,
+        saved: 0,
+        pits: 0,
+        centre: 0,
+    };
+    show(head, &numbers, &meets, routes, 0, &columns, &rows);
+}
+
 // Three runs to the left, downwards and both, with a turn at every vertex and with none.
 fn all_ways() {
     let mut columns = [0u32; 64];
@@ -376,6 +394,7 @@ fn longest() {
 fn main() {
     job_seven();
     one_point();
+    no_runs();
     all_ways();
     longest();
 }

@@ -16,7 +16,7 @@ use Rattle.network.specs.Corners.{corners}
 use Rattle.network.proofs.Corners.{corners-least}
 use Rattle.job.specs.declared.Run.{Run as Read}
 use Rattle.job.specs.declared.Refusal.{Refusal}
-use Rattle.job.specs.declared.Refusal.the-variants.{ShortWork, ShortPlan, Cut, UnknownKind, Misplaced, WrongCount, WrongNumber, OutOfRange, TooManyRuns, NoRuns, NoStar}
+use Rattle.job.specs.declared.Refusal.the-variants.{ShortWork, ShortPlan, Cut, UnknownKind, Misplaced, WrongCount, WrongNumber, OutOfRange, TooManyRuns, NoStar}
 use Rattle.job.specs.Refusal.{refusalNumber, refusalPlace}
 use Rattle.job.specs.Parse.{Parsed, accepted, refused, parse}
 use Rattle.job.specs.Written.{Bytes, WellFormed}
@@ -26,7 +26,9 @@ use Rattle.plan.proofs.Determined.{book-head, book-corners}
 use Rattle.plan.specs.Fits.{PointIn, HeadFits}
 use Rattle.plan.proofs.Whole.{entries-corners}
 use Rattle.job.proofs.Located.{one-stage}
+use Rattle.job.proofs.Order.{refusal-numbers}
 use Rattle.planner.specs.declared.Answer.{Answer}
+use Rattle.planner.specs.declared.Answer.the-variants.{Planned, Refused}
 use Rattle.planner.specs.Verdict.{verdict}
 use Rattle.planner.specs.Call.{runsOf, numbersOf, planOf, Said, gives, refuses, said, codeOf, Plans, Words}
 use Rattle.planner.specs.Outcome.{Outcome, MapOutcome}
@@ -35,7 +37,6 @@ use Rattle.planner.proofs.Fits.{corners-in, head-fits}
 use Rattle.planner.proofs.Verdicts.{no-plan, enough, lent-enough}
 use Rattle.planner.proofs.Stars.{judged-accepts, job-star, star-job, same-job}
 use Rattle.planner.proofs.First.{first-given}
-use Rattle.planner.proofs.Minus.{refusal-few}
 
 -- ---- the plan's bytes, read as a head and entries
 
@@ -135,7 +136,7 @@ code-gives (gives m) job words out out′ l n e = ap gives (same m n e)
   where
     same : (a b : ℕ) → pos a ≡ pos b → a ≡ b
     same a b q = cc
-code-gives (refuses number place) job words out out′ l n e = absurd (below number (omega (arith, l .0 .number-is, refusal-few (l .0 .refusal))) e)
+code-gives (refuses number place) job words out out′ l n e = absurd (below number (omega (arith, l .0 .number-is, refusal-numbers (l .0 .refusal))) e)
   where
     below : (k : ℕ) → 1 ≤ k → negℤ (pos k) ≡ pos n → ⊥
     below zero h q = omega arith
@@ -169,20 +170,36 @@ never-short job bytes (WrongCount p) a e = omega arith
 never-short job bytes (WrongNumber p) a e = omega arith
 never-short job bytes (OutOfRange p) a e = omega arith
 never-short job bytes (TooManyRuns p) a e = omega arith
-never-short job bytes (NoRuns p) a e = omega arith
 never-short job bytes NoStar a e = omega arith
+
+-- the refusal behind a code of the map screen's function that is minus a number: it applies, and has that number
+told-refusal : (job out : List ℕ) (code : ℤ) (out′ : List ℕ) → MapDemands job out code out′ → (n : ℕ) → code ≡ negℤ (pos (suc n))
+    → (x : Refusal) × Applies job 16384 (length out) x × (refusalNumber x ≡ suc n)
+told-refusal job out code out′ d n e = go (d .says) (d .demands .demand-1) (sym (d .told) ∙ e)
+  where
+    same : (k : ℕ) → negℤ (pos k) ≡ negℤ (pos (suc n)) → k ≡ suc n
+    same zero q = let z : _≡_ {A = ℕ} 0 1 = cc in absurd (omega arith)
+    same (suc k) q = let z : k ≡ n = cc in omega arith
+
+    go : (s : Said) → Leaves job 16384 out s out′ → codeOf s ≡ negℤ (pos (suc n)) → (x : Refusal) × Applies job 16384 (length out) x × (refusalNumber x ≡ suc n)
+    go (gives m) l q = let z : _≡_ {A = ℕ} 0 1 = cc in absurd (omega arith)
+    go (refuses number place) l q = (l .0 .refusal, l .0 .first .applies, sym (l .0 .number-is) ∙ same number q)
 
 -- The map screen is never told -1.
 pub never-minus-1 : (job out : List ℕ) (code : ℤ) (out′ : List ℕ) → MapDemands job out code out′ → code ≡ negℤ (pos 1) → ⊥
-never-minus-1 job out code out′ d e = go (d .says) (d .demands .demand-1) (sym (d .told) ∙ e)
-  where
-    one : (k : ℕ) → negℤ (pos k) ≡ negℤ (pos 1) → k ≡ 1
-    one zero q = let z : _≡_ {A = ℕ} 0 1 = cc in absurd (omega arith)
-    one (suc k) q = let z : k ≡ 0 = cc in omega arith
+never-minus-1 job out code out′ d e = let (x, a, n) = told-refusal job out code out′ d 0 e in never-short job (length out) x a n
 
-    go : (s : Said) → Leaves job 16384 out s out′ → codeOf s ≡ negℤ (pos 1) → ⊥
-    go (gives n) l q = let z : _≡_ {A = ℕ} 0 1 = cc in omega arith
-    go (refuses number place) l q = never-short job (length out) (l .0 .refusal) (l .0 .first .applies) (sym (l .0 .number-is) ∙ one number q)
+-- 10 CANNOT OCCUR: whatever `plan` answers, it says no number 10 ..
+pub never-10 : (answer : Answer) (place : ℕ) → said answer ≡ refuses 10 place → ⊥
+never-10 (Planned n) place e = no-plan n 10 place e
+never-10 (Refused x) place e = refusal-numbers x .2 (same-number (refusalNumber x) (refusalPlace x) e)
+  where
+    same-number : (number at : ℕ) → refuses number at ≡ refuses 10 place → number ≡ 10
+    same-number number at q = cc
+
+-- .. and the map screen is never told -10.
+pub never-minus-10 : (job out : List ℕ) (code : ℤ) (out′ : List ℕ) → MapDemands job out code out′ → code ≡ negℤ (pos 10) → ⊥
+never-minus-10 job out code out′ d e = let (x, a, n) = told-refusal job out code out′ d 9 e in refusal-numbers x .2 n
 
 -- Two plans of one job have the same trench and the same saved figure; their meets figures are the job's.
 pub same-figures : (number : ℕ) (runs : List Read) (routes others : List Route) → Least (hanan (runsOf runs)) (runsOf runs) routes

@@ -1,12 +1,12 @@
--- The surveyed examples hold of the definitions, and job 7 of the listing has one least plan: by tests that are computed over all the ways to lay a
--- job's routes.
+-- The surveyed examples and a blank job hold of the definitions, and job 7 of the listing and every blank job have one least plan: by tests that are
+-- computed over all the ways to lay a job's routes.
 --
 -- A job that passes the tests of the reader is well formed, so reading its bytes gives it back and the verdict is by its star. No way to lay its
 -- routes is shorter than the trench figure, and those of that length pass what else is given (pits; for job 7 the corners themselves): so do all
 -- least plans. The other figures follow from the corners and the runs.
 use mathlib.Core.Path.{_≡_, refl, ap, ap₂, _∙_, subst}
 use mathlib.Core.Bool.{Bool, true, false, cond, not, _&&_, false≢true}
-use mathlib.Core.List.{List, [], _∷_, _++_, map, flatten}
+use mathlib.Core.List.{List, [], _∷_, _++_, map, flatten, flatMap}
 use Prim.Native.Nat.{ℕ, _+_, _^_, _≤_, _<_}
 use native.Mathlib.Omega.{arith}
 use borrow.Author.Tests.{leb-true, ltb-true, eqb-true, not-true}
@@ -32,12 +32,13 @@ use Rattle.job.specs.Written.{InRange, WellFormed, bytesOf}
 use Rattle.job.proofs.Rising.{Rising, none, more, rising-well-formed}
 use Rattle.job.proofs.Written.{written-read}
 use Rattle.plan.specs.declared.Head.{Head}
+use Rattle.plan.specs.Records.{headRecord, endRecord}
 use Rattle.plan.specs.Plan.{Entry, bookBytes, entriesFrom, headOf, meetsOf, drawnBytes, planBytes}
 use Rattle.planner.specs.Verdict.{centresOf, isStar, judged, verdict}
 use Rattle.planner.specs.Call.{runsOf, numbersOf, Said, gives}
 use Rattle.planner.specs.Figures.{planHead, planEntries}
 use Rattle.planner.specs.Outcome.{Outcome}
-use Rattle.planner.specs.Examples.{Figures, refused-11, figures, figures-pits, Example, examples, HasVerdict, LeastOf, HoldsOf, Holds, job7Runs, job7Head, job7Entries, HasOnePlan}
+use Rattle.planner.specs.Examples.{Figures, refused-11, figures, figures-pits, Example, examples, HasVerdict, LeastOf, HoldsOf, Holds, job7Runs, job7Head, job7Entries, blankHead, HasOnePlan}
 use Rattle.planner.proofs.Verdicts.{enough}
 
 -- ---- well formed, by a test
@@ -47,9 +48,9 @@ rises : (last : ℕ) → List Read → Bool
 rises last [] = true
 rises last (r ∷ runs) = follows last (r .number) && coordinatesIn r && rises (r .number) runs
 
--- 1 to 32 of them
+-- at most 32 of them
 wellTest : List Read → Bool
-wellTest runs = leb 1 (length runs) && leb (length runs) 32 && rises 0 runs
+wellTest runs = leb (length runs) 32 && rises 0 runs
 
 -- a run that passes the reader's tests is in range and above the last
 coordinates-true : (last : ℕ) (r : Read) → follows last (r .number) ≡ true → coordinatesIn r ≡ true → (last < r .number) × InRange r
@@ -84,12 +85,11 @@ rises-true last (r ∷ runs) h =
 well-true : (number : ℕ) (runs : List Read) → number < 2 ^ 32 → wellTest runs ≡ true → WellFormed number runs
 unfolding wellTest
 well-true number runs f h =
-    let (a, up) = and-split (leb 1 (length runs) && leb (length runs) 32) _ h in
-    let (some, most) = and-split (leb 1 (length runs)) _ a in
-    rising-well-formed number runs f (leb-true 1 (length runs) some) (leb-true (length runs) 32 most) (rises-true 0 runs up)
+    let (most, up) = and-split (leb (length runs) 32) _ h in
+    rising-well-formed number runs f (leb-true (length runs) 32 most) (rises-true 0 runs up)
 
 -- the verdict on a well-formed job is by its star
-verdict-by : (number : ℕ) (runs : List Read) → WellFormed number runs → (b : Bool) → isStar (centresOf (runsOf runs)) ≡ b
+verdict-by : (number : ℕ) (runs : List Read) → WellFormed number runs → (b : Bool) → isStar (runsOf runs) ≡ b
     → HasVerdict number runs (cond b (accepted number runs) (refused NoStar))
 unfolding judged
 verdict-by number runs w b e work out h k =
@@ -100,12 +100,12 @@ verdict-by number runs w b e work out h k =
 -- all least plans have this trench and pass the test, and the figures add up to the distances
 planTest : List Read → (trench saved : ℕ) → (List Route → Bool) → Bool
 planTest runs trench saved t =
-    isStar (centresOf (runsOf runs))
+    isStar (runsOf runs)
     && (leastTest (hanan (runsOf runs)) (runsOf runs) trench t && eqb (trench + saved) (sum distance (runsOf runs)))
 
 -- the test of what a row says, and the whole test of a row
 testOf : List Read → Figures → Bool
-testOf runs refused-11 = not (isStar (centresOf (runsOf runs)))
+testOf runs refused-11 = not (isStar (runsOf runs))
 testOf runs (figures trench saved) = planTest runs trench saved (λ c. true)
 testOf runs (figures-pits trench saved pits) = planTest runs trench saved (λ c. eqb (pitsOf c) pits)
 
@@ -114,7 +114,7 @@ test e = wellTest (e .runs) && testOf (e .runs) (e .outcome)
 
 -- what the test of a plan says
 record Tested (runs : List Read) (trench saved : ℕ) (t : List Route → Bool) : Type 0 where
-  star : isStar (centresOf (runsOf runs)) ≡ true
+  star : isStar (runsOf runs) ≡ true
   least : LeastAre (hanan (runsOf runs)) (runsOf runs) trench t
   total : trench + saved ≡ sum distance (runsOf runs)
 
@@ -122,7 +122,7 @@ record Tested (runs : List Read) (trench saved : ℕ) (t : List Route → Bool) 
 plan-true : (runs : List Read) (trench saved : ℕ) (t : List Route → Bool) → planTest runs trench saved t ≡ true → Tested runs trench saved t
 unfolding planTest
 plan-true runs trench saved t h =
-    let (a, k) = and-split (isStar (centresOf (runsOf runs))) _ h in
+    let (a, k) = and-split (isStar (runsOf runs)) _ h in
     let (b, c) = and-split (leastTest (hanan (runsOf runs)) (runsOf runs) trench t) _ k in
     record {
       star = a;
@@ -133,7 +133,7 @@ plan-true runs trench saved t h =
 -- a row that passes its test holds
 sound : (runs : List Read) (o : Figures) → wellTest runs ≡ true → testOf runs o ≡ true → HoldsOf runs o
 unfolding testOf
-sound runs refused-11 w h = λ number f. verdict-by number runs (well-true number runs f w) false (not-true (isStar (centresOf (runsOf runs))) h)
+sound runs refused-11 w h = λ number f. verdict-by number runs (well-true number runs f w) false (not-true (isStar (runsOf runs)) h)
 sound runs (figures trench saved) w h =
     let p = plan-true runs trench saved (λ c. true) h in
     record {
@@ -239,6 +239,11 @@ unfolding wellTest rises planTest leastTest choices inFront routesOf ways laneOf
     centresOf centres isCentre meets degree overlap edges inside spans distinct insert gap distance pitsOf unique flatten
 job-7 = one-plan 7 job7Runs job7Head job7Entries (omega arith) refl refl refl refl
 
+-- so has every job without runs: a head whose figures are 0, and no entry
+pub blank-plan : (number : ℕ) → number < 2 ^ 32 → HasOnePlan number [] (blankHead number) []
+unfolding wellTest rises planTest leastTest choices unionLength sameRoutes edges distinct pitsOf unique flatten centres
+blank-plan number f = one-plan number [] (blankHead number) [] f refl refl refl refl
+
 -- a call with words and bytes enough for a job with one plan gives that plan's length and leaves its bytes
 pub one-plan-call : (number : ℕ) (runs : List Read) (head : Head) (entries : List Entry) → HasOnePlan number runs head entries
     → (words : ℕ) (out : List ℕ) (s : Said) (out′ : List ℕ) → 16384 ≤ words → 40960 ≤ length out
@@ -248,3 +253,10 @@ one-plan-call number runs head entries one words out s out′ h k call =
     let p = subst (λ (v : Parsed). Outcome v out s out′) (one .accepts words (length out) h k) call in
     let e = one .plan-is (p .routes) (p .least) in
     (p .says ∙ ap (λ l. gives (length l)) e, p .plan ∙ ap (λ l. l ++ drop (length l) out) e)
+
+-- so a call for a job without runs gives 22 and leaves its head, its end and the later bytes
+pub blank-call : (number : ℕ) → number < 2 ^ 32 → (words : ℕ) (out : List ℕ) (s : Said) (out′ : List ℕ) → 16384 ≤ words → 40960 ≤ length out
+    → Outcome (verdict (bytesOf number []) words (length out)) out s out′
+    → (s ≡ gives 22) × (out′ ≡ headRecord (blankHead number) ++ endRecord 0 ++ drop 22 out)
+unfolding bookBytes flatMap
+blank-call number f words out s out′ h k call = one-plan-call number [] (blankHead number) [] (blank-plan number f) words out s out′ h k call

@@ -8,6 +8,7 @@ pub mod Held
 pub mod Verdicts
 pub mod Distances
 pub mod Judged
+pub mod Blank
 pub mod Laying
 pub mod Writing
 pub mod Stages

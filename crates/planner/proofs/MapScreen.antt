@@ -13,6 +13,7 @@ use Rattle.job.specs.declared.Refusal.the-variants.{ShortPlan}
 use Rattle.job.specs.Refusal.{refusalNumber, refusalPlace}
 use Rattle.job.specs.Parse.{Parsed, accepted, refused, parse}
 use Rattle.job.specs.Written.{Bytes}
+use Rattle.job.proofs.Order.{refusal-numbers}
 use Rattle.plan.proofs.Whole.{plan-most}
 use Rattle.planner.specs.declared.Answer.{Answer}
 use Rattle.planner.specs.declared.Answer.the-variants.{Planned, Refused}
@@ -23,7 +24,7 @@ use Rattle.planner.proofs.Fits.{few-lines}
 use Rattle.planner.proofs.Verdicts.{no-plan, short-plan}
 use Rattle.planner.proofs.Stages.{decided}
 use Rattle.planner.proofs.Stars.{accepted-few}
-use Rattle.planner.proofs.Minus.{refusal-few, minus-fits}
+use Rattle.planner.proofs.Minus.{minus-fits}
 
 -- no plan exceeds 36,822 bytes
 pub plan-short : (job out out′ : List ℕ) (n : ℕ) → Bytes job → Outcome (judged (parse job)) out (gives n) out′ → n ≤ 36822
@@ -51,7 +52,7 @@ refusal-told : (v : Parsed) (out out′ : List ℕ) (x : Refusal) (code : ℤ) �
     → MapOutcome v out (toZ w32 (ofZ w32 code)) out′
 refusal-told v out out′ x code f o =
     told v out out′ (said (Refused x)) code
-    (ap (λ z. toZ w32 (ofZ w32 z)) f ∙ toZ-ofZ w32 (codeOf (said (Refused x))) (minus-fits (refusalNumber x) (refusal-few x .1)) ∙ sym f) f o
+    (ap (λ z. toZ w32 (ofZ w32 z)) f ∙ toZ-ofZ w32 (codeOf (said (Refused x))) (minus-fits (refusalNumber x) (refusal-numbers x .1)) ∙ sym f) f o
 
 -- a plan buffer that is too short
 pub told-short : (job out : List ℕ) (code : ℤ) → length out < 40960 → code ≡ codeOf (said (Refused ShortPlan))

@@ -19,8 +19,8 @@ use Rattle.job.specs.Parse.{Parsed, accepted, refused, parse}
 use Rattle.job.specs.Written.{Bytes, WellFormed, bytesOf}
 use Rattle.job.proofs.Accepted.{accepted-iff}
 use Rattle.planner.specs.Call.{runsOf}
-use Rattle.planner.specs.Verdict.{centresOf, isStar, judged}
-use Rattle.planner.specs.Demands.{JobIn, IsStar}
+use Rattle.planner.specs.Verdict.{centresOf, some, isStar, judged}
+use Rattle.planner.specs.Demands.{JobIn, IsStar, centred, blank}
 
 -- ---- the intersection graph is a star
 
@@ -32,41 +32,43 @@ first-centre runs c rest e =
     let (s, n) = centres-first (meets (hanan runs) runs) (below (length runs)) (below-rises (length runs)) c rest e in
     (below-member (length runs) c (s .member), true-centre (meets (hanan runs) runs) (below (length runs)) c s)
 
--- the test finds a centre exactly if there is one
-star-is : (runs : List Run) → isStar (centresOf runs) ≡ true → IsStar runs
-star-is runs h = go (centresOf runs) refl h
+-- the test passes exactly if there is a centre, or no run
+star-is : (runs : List Run) → isStar runs ≡ true → IsStar runs
+star-is [] h = blank
+star-is (r ∷ runs) h = go (centresOf (r ∷ runs)) refl h
   where
-    go : (l : List ℕ) → centresOf runs ≡ l → isStar l ≡ true → IsStar runs
+    go : (l : List ℕ) → centresOf (r ∷ runs) ≡ l → some l ≡ true → IsStar (r ∷ runs)
     go [] e k = absurd (true≢false (sym k))
-    go (c ∷ rest) e k = let (i, s) = first-centre runs c rest e in record { centre = c; listed = i; is = s }
+    go (c ∷ rest) e k = let (i, s) = first-centre (r ∷ runs) c rest e in centred c i s
 
-is-star : (runs : List Run) → IsStar runs → isStar (centresOf runs) ≡ true
+is-star : (runs : List Run) → IsStar runs → isStar runs ≡ true
 unfolding centresOf
-is-star runs s = go (centres (meets (hanan runs) runs) (below (length runs))) refl
+is-star [] s = refl
+is-star (r ∷ runs) (centred c i s) = go (centres (meets (hanan (r ∷ runs)) (r ∷ runs)) (below (length (r ∷ runs)))) refl
   where
-    go : (l : List ℕ) → centres (meets (hanan runs) runs) (below (length runs)) ≡ l → isStar l ≡ true
+    go : (l : List ℕ) → centres (meets (hanan (r ∷ runs)) (r ∷ runs)) (below (length (r ∷ runs))) ≡ l → some l ≡ true
     go [] e =
         absurd
-        (centres-none (meets (hanan runs) runs) (below (length runs)) e (s .centre)
-        (centre-true (meets (hanan runs) runs) (below (length runs)) (s .centre) (member-below (length runs) (s .centre) (s .listed)) (s .is)))
-    go (c ∷ rest) e = refl
+        (centres-none (meets (hanan (r ∷ runs)) (r ∷ runs)) (below (length (r ∷ runs))) e c
+        (centre-true (meets (hanan (r ∷ runs)) (r ∷ runs)) (below (length (r ∷ runs))) c (member-below (length (r ∷ runs)) c i) s))
+    go (d ∷ rest) e = refl
 
 -- ---- the bytes
 
 -- a job that is accepted was read, and is a star
 pub judged-accepts : (p : Parsed) (number : ℕ) (runs : List Read) → judged p ≡ accepted number runs
-    → (p ≡ accepted number runs) × (isStar (centresOf (runsOf runs)) ≡ true)
+    → (p ≡ accepted number runs) × (isStar (runsOf runs) ≡ true)
 unfolding judged
-judged-accepts (accepted m rs) number runs e = go (isStar (centresOf (runsOf rs))) refl e
+judged-accepts (accepted m rs) number runs e = go (isStar (runsOf rs)) refl e
   where
-    go : (b : Bool) → isStar (centresOf (runsOf rs)) ≡ b → cond b (accepted m rs) (refused NoStar) ≡ accepted number runs
-        → (accepted m rs ≡ accepted number runs) × (isStar (centresOf (runsOf runs)) ≡ true)
-    go true h k = let z : rs ≡ runs = cc in (k, subst (λ (l : List Read). isStar (centresOf (runsOf l)) ≡ true) z h)
+    go : (b : Bool) → isStar (runsOf rs) ≡ b → cond b (accepted m rs) (refused NoStar) ≡ accepted number runs
+        → (accepted m rs ≡ accepted number runs) × (isStar (runsOf runs) ≡ true)
+    go true h k = let z : rs ≡ runs = cc in (k, subst (λ (l : List Read). isStar (runsOf l) ≡ true) z h)
     go false h k = absurd (let z : _≡_ {A = ℕ} 0 1 = cc in omega arith)
 judged-accepts (refused x) number runs e = absurd (let z : _≡_ {A = ℕ} 0 1 = cc in omega arith)
 
 -- a star that was read is accepted
-accepts-judged : (p : Parsed) (number : ℕ) (runs : List Read) → p ≡ accepted number runs → isStar (centresOf (runsOf runs)) ≡ true
+accepts-judged : (p : Parsed) (number : ℕ) (runs : List Read) → p ≡ accepted number runs → isStar (runsOf runs) ≡ true
     → judged p ≡ accepted number runs
 unfolding judged
 accepts-judged p number runs e h = rw (e, h)
@@ -75,9 +77,9 @@ accepts-judged p number runs e h = rw (e, h)
 pub judged-refuses : (p : Parsed) (x : Refusal) → judged p ≡ refused x
     → (p ≡ refused x) ⊎ ((number : ℕ) × (runs : List Read) × (p ≡ accepted number runs) × (IsStar (runsOf runs) → ⊥) × (x ≡ NoStar))
 unfolding judged
-judged-refuses (accepted number runs) x e = go (isStar (centresOf (runsOf runs))) refl e
+judged-refuses (accepted number runs) x e = go (isStar (runsOf runs)) refl e
   where
-    go : (b : Bool) → isStar (centresOf (runsOf runs)) ≡ b → cond b (accepted number runs) (refused NoStar) ≡ refused x
+    go : (b : Bool) → isStar (runsOf runs) ≡ b → cond b (accepted number runs) (refused NoStar) ≡ refused x
         → (accepted number runs ≡ refused x) ⊎ ((n : ℕ) × (rs : List Read) × (accepted number runs ≡ accepted n rs) × (IsStar (runsOf rs) → ⊥) × (x ≡ NoStar))
     go true h k = absurd (let z : _≡_ {A = ℕ} 0 1 = cc in omega arith)
     go false h k = let z : x ≡ NoStar = cc in inr (number, runs, refl, λ s. true≢false (sym (is-star (runsOf runs) s) ∙ h), z)

@@ -14,7 +14,7 @@ use Rattle.job.specs.Parse.{accepted, refused, parse}
 use Rattle.intersection.specs.declared.Star.the-variants as star
 use Rattle.intersection.specs.Star.{starOf}
 use Rattle.planner.specs.declared.Answer.the-variants.{Refused}
-use Rattle.planner.specs.Verdict.{centresOf, isStar, judged, verdict}
+use Rattle.planner.specs.Verdict.{centresOf, some, judged, verdict}
 use Rattle.planner.specs.Call.{runsOf, Said, gives, refuses, said, Plans}
 use Rattle.planner.specs.Outcome.{Outcome}
 
@@ -48,21 +48,24 @@ pub read-accepted : (job out : List ℕ) (number : ℕ) (runs : List Read) (s : 
 read-accepted job out number runs s out′ e d = rw e d
 
 -- then the star
-module _ (number : ℕ) (runs : List Read) (out : List ℕ) where
-  pub no-star : starOf (centresOf (runsOf runs)) ≡ star.NoStar → Outcome (judged (accepted number runs)) out (said (Refused NoStar)) out
+module _ (number : ℕ) (out : List ℕ) where
+  pub no-star : (runs : List Read) → 0 < length runs → starOf (centresOf (runsOf runs)) ≡ star.NoStar
+      → Outcome (judged (accepted number runs)) out (said (Refused NoStar)) out
   unfolding judged
-  no-star e = go (centresOf (runsOf runs)) e
+  no-star [] h e = absurd (omega arith)
+  no-star (r ∷ runs) h e = go (centresOf (runsOf (r ∷ runs))) e
     where
-      go : (l : List ℕ) → starOf l ≡ star.NoStar → Outcome (cond (isStar l) (accepted number runs) (refused NoStar)) out (said (Refused NoStar)) out
+      go : (l : List ℕ) → starOf l ≡ star.NoStar → Outcome (cond (some l) (accepted number (r ∷ runs)) (refused NoStar)) out (said (Refused NoStar)) out
       go [] q = record { says = refl; plan-kept = refl }
       go (c ∷ rest) q = absurd (let z : _≡_ {A = ℕ} 0 1 = cc in omega arith)
 
-  pub star-planned : (c : ℕ) (s : Said) (out′ : List ℕ) → starOf (centresOf (runsOf runs)) ≡ star.Centre c → Plans number runs out s out′
+  pub star-planned : (runs : List Read) (c : ℕ) (s : Said) (out′ : List ℕ) → starOf (centresOf (runsOf runs)) ≡ star.Centre c → Plans number runs out s out′
       → Outcome (judged (accepted number runs)) out s out′
   unfolding judged
-  star-planned c s out′ e p = go (centresOf (runsOf runs)) e
+  star-planned [] c s out′ e p = p
+  star-planned (r ∷ runs) c s out′ e p = go (centresOf (runsOf (r ∷ runs))) e
     where
-      go : (l : List ℕ) → starOf l ≡ star.Centre c → Outcome (cond (isStar l) (accepted number runs) (refused NoStar)) out s out′
+      go : (l : List ℕ) → starOf l ≡ star.Centre c → Outcome (cond (some l) (accepted number (r ∷ runs)) (refused NoStar)) out s out′
       go [] q = absurd (let z : _≡_ {A = ℕ} 0 1 = cc in omega arith)
       go (d ∷ rest) q = p
 

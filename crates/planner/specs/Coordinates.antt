@@ -1,5 +1,5 @@
 -- The first n runs of a job by four arrays of coordinates, each of them the decimetres plus 1,000,000: "A coordinate lies from -1,000,000 to
--- 1,000,000. There are 1 to 32 runs" (01, Job book).
+-- 1,000,000", and there are at most 32 runs (01, Job book).
 use mathlib.Core.List.{List}
 use Prim.Native.Nat.{ℕ, _≤_, _<_}
 use lib.ListN.{getD}

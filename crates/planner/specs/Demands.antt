@@ -2,7 +2,7 @@
 use mathlib.Core.Path.{_≡_}
 use mathlib.Core.Bool.{true}
 use mathlib.Core.Logic.{_↔_}
-use mathlib.Core.List.{List, map}
+use mathlib.Core.List.{List, [], map}
 use Prim.Native.Nat.{ℕ, _≤_, _<_}
 use lib.IntN.{ℤ, pos}
 use lib.ListN.{length, take}
@@ -31,11 +31,11 @@ pub record JobIn (job : List ℕ) : Type 0 where
   pub well-formed : WellFormed number runs
   pub written : job ≡ bytesOf number runs
 
--- "The job is a star when some run, the centre, meets every other run and no two others meet" (01, Lines, boxes, meeting)
-pub record IsStar (runs : List Run) : Type 0 where
-  pub centre : ℕ
-  pub listed : centre < length runs
-  pub is : isCentre (meets (hanan runs) runs) (below (length runs)) centre ≡ true
+-- "The job is a star when some run, the centre, meets every other run and no two others meet" (01, Lines, boxes, meeting); a job with "no runs now counts as a
+-- star" too (02, C-11)
+pub data IsStar : List Run → Type 0 where
+  centred : {runs : List Run} (centre : ℕ) → centre < length runs → isCentre (meets (hanan runs) runs) (below (length runs)) centre ≡ true → IsStar runs
+  blank : IsStar []
 
 -- the words and bytes that are lent are enough, and the job is well formed and a star
 pub record Admitted (job : List ℕ) (words bytes : ℕ) : Type 0 where
@@ -44,7 +44,7 @@ pub record Admitted (job : List ℕ) (words bytes : ℕ) : Type 0 where
   pub job-in : JobIn job
   pub star : IsStar (runsOf (job-in .runs))
 
--- When a refusal applies to a call: 1, "work sheet under 16,384 words"; 2, "plan buffer under 40,960 bytes"; 3 to 10 by the job's bytes; 11, "well formed,
+-- When a refusal applies to a call: 1, "work sheet under 16,384 words"; 2, "plan buffer under 40,960 bytes"; 3 to 9 by the job's bytes; 11, "well formed,
 -- but no star".
 pub data Applies (job : List ℕ) (words bytes : ℕ) : Refusal → Type 0 where
   short-work : words < 16384 → Applies job words bytes ShortWork

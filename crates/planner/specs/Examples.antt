@@ -1,5 +1,5 @@
--- The surveyed examples of document 01 as one table with what each row says, and the job of its listing with the one plan that it has. Coordinates
--- are in decimetres, and runs are numbered 1, 2, 3, as written there.
+-- The surveyed examples of document 01 as one table with what each row says, and a blank job; the job of the listing, and every blank job, with the one plan
+-- that it has. Coordinates are in decimetres, and runs are numbered 1, 2, 3, as written there.
 use mathlib.Core.Path.{_≡_}
 use mathlib.Core.List.{List, [], _∷_, map}
 use Prim.Native.Nat.{ℕ, suc, _+_, _^_, _≤_, _<_}
@@ -63,6 +63,8 @@ examples =
     ∷ ((run 0 0 4 4 ∷ run 0 2 0 4 ∷ run 1 0 4 0 ∷ []) gives figures 10 3)
     ∷ ((run 0 2 4 2 ∷ run 2 0 2 4 ∷ []) gives refused-11)
     ∷ ((run 0 0 3 0 ∷ run 2 0 5 0 ∷ []) gives figures 5 1)
+    -- document 02, C-11: "runs, trench, saved, pits and centre all 0"
+    ∷ ([] gives figures-pits 0 0 0)
     ∷ []
 
 -- ---- what a row says
@@ -109,6 +111,13 @@ job7Entries =
     ∷ record { number = 2; meets = 1; corners = point 0 10 ∷ point 40 10 ∷ [] }
     ∷ record { number = 3; meets = 1; corners = point 20 20 ∷ point 20 50 ∷ [] }
     ∷ []
+
+-- ---- blank jobs: "Its plan has runs, trench, saved, pits and centre all 0, no route, and an end of 0" (document 02, C-11)
+
+abbrev pub blankHead : (number : ℕ) → Head
+blankHead number = record { job = number; runs = 0; trench = 0; saved = 0; pits = 0; centre = 0 }
+
+-- ---- one plan
 
 -- The job is accepted and has one least plan: there are least routes, and all of them have the corners, the head, the figures of each run and the
 -- bytes that are given.

@@ -1,6 +1,7 @@
 -- The verdict on a call: "Order: 1, 2; then records front to back; .. last 11. The first that applies is given, and none otherwise" (document 01,
--- What a call says and leaves). A job is accepted exactly if it is well formed and its intersection graph is a star (demand 2).
-use mathlib.Core.Bool.{Bool, true, false, cond}
+-- What a call says and leaves). A job is accepted exactly if it is well formed and its intersection graph is a star (demand 2), as that of a job without
+-- runs is.
+use mathlib.Core.Bool.{Bool, true, false, cond, not, _||_}
 use mathlib.Core.List.{List, [], _∷_}
 use Prim.Native.Nat.{ℕ}
 use lib.Dec.{ltb}
@@ -16,14 +17,18 @@ use Rattle.planner.specs.Call.{runsOf}
 unfoldable pub centresOf : List Run → List ℕ
 centresOf runs = centres (meets (hanan runs) runs) (below (length runs))
 
--- some run meets every other run, and no two others meet
-abbrev pub isStar : List ℕ → Bool
-isStar [] = false
-isStar (c ∷ rest) = true
+-- the list has an element
+abbrev pub some : {A : Type 0} → List A → Bool
+some [] = false
+some (a ∷ l) = true
+
+-- some run is a centre: it "meets every other run and no two others meet"; or there is no run, and the job "counts as a star" (document 02, C-11)
+abbrev pub isStar : List Run → Bool
+isStar runs = not (some runs) || some (centresOf runs)
 
 -- a well-formed job is refused with 11 where it is no star
 unfoldable pub judged : Parsed → Parsed
-judged (accepted number runs) = cond (isStar (centresOf (runsOf runs))) (accepted number runs) (refused NoStar)
+judged (accepted number runs) = cond (isStar (runsOf runs)) (accepted number runs) (refused NoStar)
 judged (refused x) = refused x
 
 -- the lent words and bytes, by their number, come before the job

@@ -48,11 +48,14 @@ fn plan_star(
     star::write(j, neighbours, centre, columns, rows, laid, out)
 }
 
-// The plan of a well-formed job, unless its runs form no star.
+// The plan of a well-formed job, unless its runs form no star. A job without runs has no centre, and nothing is laid.
 fn plan_job(j: Job, work: &mut [u32], out: &mut [u8]) -> Answer
     requires { ⌜ Held j × Lent (j .count) (now work) (now out) ⌝ }
     ensures { λ r. ⌜ Outcome (judged (accepted (j .number) (runsIn j))) (now (out .entry)) (said r) (now (out .exit)) × Left (said r) (now (work .entry)) (now (work .exit)) ⌝ }
 {
+    if j.count == 0 {
+        return Answer::Planned(star::write_blank(j.number, out));
+    }
     let neighbours = judge::neighbours_of(j);
     let star = judge::star_in(&neighbours, j.count);
     match star {

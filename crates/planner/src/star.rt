@@ -3,9 +3,10 @@ use grid::Axis;
 use job::Job;
 use plan::Head;
 use route::Route;
+use route::Vertex;
 use table::side::Side;
 ghost use mathlib.Core.Path.{_≡_};
-ghost use mathlib.Core.List.{List};
+ghost use mathlib.Core.List.{List, []};
 ghost use Prim.Native.Nat.{_≤_};
 ghost use lib.ListN.{length};
 ghost use Rattle.network.specs.Lists.{sum};
@@ -120,4 +121,31 @@ pub fn write(
     let xs = columns.lines;
     let ys = rows.lines;
     plan::write_plan(out, head, &numbers, &meets, routes, j.count, &xs, &ys)
+}
+
+// Writes the plan of a job without runs, and says its length: every figure is 0, and there is no route.
+pub fn write_blank(number: u32, out: &mut [u8]) -> usize
+    requires { ⌜ 40960 ≤ length (now out) ⌝ }
+    ensures { λ n. ⌜ Wrote (planOf number [] []) (now (out .entry)) (now (out .exit)) n ⌝ }
+{
+    let head = Head {
+        job: number,
+        runs: 0,
+        trench: 0,
+        saved: 0,
+        pits: 0,
+        centre: 0,
+    };
+    let numbers = [0u32; 32];
+    let meets = [0u32; 32];
+    let routes = [Route {
+        steps: [0u8; 128],
+        count: 0,
+        start: Vertex { column: 0, row: 0 },
+        right: true,
+        up: true,
+    }; 32];
+    let xs = [0u32; 64];
+    let ys = [0u32; 64];
+    plan::write_plan(out, head, &numbers, &meets, routes, 0, &xs, &ys)
 }

@@ -7,7 +7,7 @@ use lib.ListN.{length, length-append}
 use Rattle.network.specs.Lists.{All}
 use Rattle.network.specs.Plane.{Point}
 use Rattle.job.specs.declared.Refusal.{Refusal}
-use Rattle.job.specs.declared.Refusal.the-variants as refusal
+use Rattle.job.proofs.Order.{refusal-numbers}
 use Rattle.job.specs.Refusal.{refusalNumber, refusalPlace}
 use Rattle.plan.specs.declared.Head.{Head}
 use Rattle.plan.specs.Plan.{Entry, totalCorners}
@@ -89,22 +89,8 @@ module _ (head : Head) (es : List Entry) (g : HeadFits head) (f : All EntryFits 
 
 -- ---- refusals
 
--- a refusal's number has at most two digits
-number-length : (r : Refusal) → refusalNumber r < 10 ^ 2
-number-length refusal.ShortWork = omega arith
-number-length refusal.ShortPlan = omega arith
-number-length (refusal.Cut at) = omega arith
-number-length (refusal.UnknownKind at) = omega arith
-number-length (refusal.Misplaced at) = omega arith
-number-length (refusal.WrongCount at) = omega arith
-number-length (refusal.WrongNumber at) = omega arith
-number-length (refusal.OutOfRange at) = omega arith
-number-length (refusal.TooManyRuns at) = omega arith
-number-length (refusal.NoRuns at) = omega arith
-number-length refusal.NoStar = omega arith
-
--- a place is a number of 64 bits
+-- a refusal's number has at most two digits, and a place is a number of 64 bits
 pub refusal-length : (r : Refusal) → refusalPlace r < 2 ^ 64 → length (refusalText r) ≤ 35
 unfolding refusalText
 refusal-length r h =
-    simp length-append (omega (arith, decimal-length 1 (refusalNumber r) (number-length r), decimal-length 19 (refusalPlace r) (omega arith)))
+    simp length-append (omega (arith, decimal-length 1 (refusalNumber r) (omega (arith, refusal-numbers r)), decimal-length 19 (refusalPlace r) (omega arith)))

@@ -43,9 +43,9 @@ fn list_lines(lines: &[u8]) {
     }
 }
 
-// The refusal of this number, at this place where it has one.
-fn refusal(number: u32, place: usize) -> Refusal {
-    match number {
+// The refusal that is the nth by its number, from 1, at this place where it has one.
+fn refusal(nth: u32, place: usize) -> Refusal {
+    match nth {
         1 => Refusal::ShortWork,
         2 => Refusal::ShortPlan,
         3 => Refusal::Cut(place),
@@ -55,7 +55,6 @@ fn refusal(number: u32, place: usize) -> Refusal {
         7 => Refusal::WrongNumber(place),
         8 => Refusal::OutOfRange(place),
         9 => Refusal::TooManyRuns(place),
-        10 => Refusal::NoRuns(place),
         _ => Refusal::NoStar,
     }
 }
@@ -67,8 +66,8 @@ fn list_refusal(refusal: Refusal) {
 }
 
 fn list_refusals(place: usize) {
-    for number in 1..12 {
-        list_refusal(refusal(number, place));
+    for nth in 1..11 {
+        list_refusal(refusal(nth, place));
     }
 }
 

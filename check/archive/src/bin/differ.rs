@@ -96,7 +96,8 @@ fn filled(program: &str, seed: u64, jobs: u64) -> Report {
         let due = match surveyed(&case.bytes) {
             Ok(survey) => {
                 *report.accepted.entry(survey.job.runs.len()).or_default() += 1;
-                plan_surveyed(&survey).map(|plan| plan.saved)
+                // A job without runs has no centre, and so no table.
+                plan_surveyed(&survey).filter(|plan| plan.centre.is_some()).map(|plan| plan.saved)
             }
             Err(refused) => {
                 *report.refused.entry(refused.number).or_default() += 1;

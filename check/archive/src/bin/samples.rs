@@ -63,7 +63,7 @@ fn write(path: &Path, job: &[u8]) -> std::io::Result<()> {
     fs::write(path.with_extension("lst"), listed)
 }
 
-/// The job of document 01's listing, damaged in each way that has a number of its own.
+/// The job of document 01's listing, and a blank one, damaged in each way that has a number of its own.
 fn damaged() -> Vec<(&'static str, Vec<u8>)> {
     let run = |number: u16, first: (i32, i32), second: (i32, i32)| Run {
         number,
@@ -83,6 +83,7 @@ fn damaged() -> Vec<(&'static str, Vec<u8>)> {
         changed[place] = byte;
         changed
     };
+    let blank = with(&|job| job.runs.clear());
     vec![
         ("03-empty", Vec::new()),
         ("03-cut", whole[..40].to_vec()),
@@ -91,10 +92,11 @@ fn damaged() -> Vec<(&'static str, Vec<u8>)> {
         ("05-no-head", whole[5..].to_vec()),
         ("05-second-head", [&whole[..24], &whole[..5], &whole[24..]].concat()),
         ("05-after-end", [&whole[..], &[0]].concat()),
+        ("05-after-blank", [&blank[..], &[0]].concat()),
         ("06-count", at(63, 2)),
+        ("06-count-of-none", [&blank[..6], &[1, 0]].concat()),
         ("07-number", with(&|job| job.runs[2].number = 2)),
         ("08-coordinate", with(&|job| job.runs[1].second.x = 1_000_001)),
         ("09-too-many", with(&|job| job.runs = (1..=33).map(|n| run(n, (0, 0), (i32::from(n), 1))).collect())),
-        ("10-no-runs", with(&|job| job.runs.clear())),
     ]
 }

@@ -11,23 +11,19 @@ returns : tie.Need-returns
 unfolding endStep
 returns c = simp (ne-eqb _ _ (c .if1 .taken))
 
+sub-if2 : tie.Need-sub-if2
+sub-if2 c = search needs
+
+add-t9 : tie.Need-add-t9
+add-t9 c = search needs
+
 returns-2 : tie.Need-returns-2
 unfolding endStep
-returns-2 c = simp (eq-eqb _ _ (c .before .if1 .left), eq-eqb _ _ (c .if2 .taken))
-
-sub-if3 : tie.Need-sub-if3
-sub-if3 c = search needs
-
-add-t10 : tie.Need-add-t10
-add-t10 c = search needs
+returns-2 c = simp (eq-eqb _ _ (c .before .if1 .left), length-drop, lt-ltb _ _ (c .if2 .taken))
 
 returns-3 : tie.Need-returns-3
 unfolding endStep
-returns-3 c = simp (eq-eqb _ _ (c .before .before .if1 .left), ne-eqb _ _ (c .before .if2 .left), length-drop, lt-ltb _ _ (c .if3 .taken))
-
-returns-4 : tie.Need-returns-4
-unfolding endStep
-returns-4 c = simp (eq-eqb _ _ (c .before .before .if1 .left), ne-eqb _ _ (c .before .if2 .left), length-drop, le-ltb _ _ (c .if3 .left))
+returns-3 c = simp (eq-eqb _ _ (c .before .if1 .left), length-drop, le-ltb _ _ (c .if2 .left))
 
 pub end-step-spec : {M : Type 1} → statement M
-end-step-spec = tie.close (tie.spec returns returns-2 sub-if3 add-t10 returns-3 returns-4)
+end-step-spec = tie.close (tie.spec returns sub-if2 add-t9 returns-2 returns-3)

@@ -1,14 +1,14 @@
--- `text_vectors::list_refusals` is safe and ends: there are eleven numbers.
+-- `text_vectors::list_refusals` is safe and ends: there are ten.
 use Prim.Native.Nat.{_-_}
 use borrow.Author.Needs.{needs}
 use Rattle.text_vectors.proofs.list_refusals.Statement.{statement}
 use Rattle.text_vectors.proofs.list_refusals.Tie as tie
 
 abbrev Inv-loop : tie.InvT-loop
-Inv-loop place number₀ number = Unit {0}
+Inv-loop place nth₀ nth = Unit {0}
 
 abbrev μ-loop : tie.MeasureT-loop
-μ-loop place number₀ number = 12 - number
+μ-loop place nth₀ nth = 11 - nth
 
 loop-holds : tie.Need-loop-holds Inv-loop μ-loop
 loop-holds c = search needs
@@ -19,8 +19,8 @@ refusal-requires c κs = search needs
 list-refusal-requires : tie.Need-list-refusal-requires Inv-loop μ-loop
 list-refusal-requires c κs = search needs
 
-add-number : tie.Need-add-number Inv-loop μ-loop
-add-number c = search needs
+add-nth : tie.Need-add-nth Inv-loop μ-loop
+add-nth c = search needs
 
 loop-less : tie.Need-loop-less Inv-loop μ-loop
 loop-less c = search needs
@@ -40,7 +40,7 @@ list-refusals-spec =
     loop-holds
     refusal-requires
     list-refusal-requires
-    add-number
+    add-nth
     loop-less
     loop-again
     returns)

@@ -7,7 +7,8 @@ use mir.Syntax.{w32}
 use mir.Val.{SFits, toZ, ofZ}
 use mir.ValLaws.{toZ-ofZ}
 use borrow.Author.Needs.{needs}
-use Rattle.planner.proofs.Minus.{refusal-few, minus-fits, zero-less}
+use Rattle.job.proofs.Order.{refusal-numbers}
+use Rattle.planner.proofs.Minus.{minus-fits, zero-less}
 use Rattle.planner.proofs.codes.code_of.Statement.{statement}
 use Rattle.planner.proofs.codes.code_of.Tie as tie
 
@@ -15,7 +16,7 @@ refusal-number-requires : tie.Need-refusal-number-requires
 refusal-number-requires c κs = search needs
 
 few : (c : tie.After-refusal-number) → c .refusal-number .result ≤ 11
-few c = omega (arith, refusal-few (c .before .args .refusal) .1)
+few c = omega (arith, refusal-numbers (c .before .args .refusal))
 
 cast-result : tie.Need-cast-result
 cast-result c = record { sfits = omega (arith, few c) }
