@@ -60,7 +60,7 @@ impl Graph {
         others.iter().all(|&i| self.meet(c, i)) && others.iter().all(|&i| others.iter().all(|&j| !self.meet(i, j)))
     }
 
-    /// Whether the runs form a star: one of them is a centre, or there is none (02, C-11).
+    /// Whether the runs form a star: one of them is a centre, or there is no run (02, C-11).
     pub fn is_star(&self) -> bool {
         self.meets.is_empty() || self.centre().is_some()
     }
