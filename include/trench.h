@@ -1,4 +1,4 @@
-/* The trench planner for C. Link target/staticlib/libplanner.a, which `rt staticlib planner` writes.
+/* The trench planner for C, and the reader of its plans. Link target/staticlib/libtrench.a, which `rt staticlib trench` writes.
  *
  * Lengths and coordinates are in decimetres. Fields of both books are little-endian and not aligned; coordinates are 32-bit
  * two's complement. Each record is one byte of kind, then a body:
@@ -25,21 +25,37 @@ extern "C" {
 /* The least plan buffer that is accepted, in bytes. */
 #define TRENCH_PLAN_ROOM 40960
 
-/* No plan is longer than this, in bytes. */
+/* No plan is longer than this, in bytes; nor is any plan book that is read. */
 #define TRENCH_LONGEST_PLAN 36822
 
 /* No job that is accepted is longer than this, in bytes. */
 #define TRENCH_LONGEST_JOB 616
 
-/* The most runs of a job. */
+/* The most runs of a job, and routes of a plan. */
 #define TRENCH_MOST_RUNS 32
 
-/* A call needs no more stack than this, in bytes; most of it are the planner's 16,384 work words. This figure is measured by
- * the tests and not proved. */
+/* The most corners of a route. */
+#define TRENCH_MOST_CORNERS 127
+
+/* The words that trench_figures, trench_places, trench_route and trench_corner write. */
+#define TRENCH_FIGURES 6
+#define TRENCH_PLACES 33
+#define TRENCH_ROUTE 3
+#define TRENCH_CORNER 2
+
+/* A call of any function needs no more stack than this, in bytes; most of it are the planner's 16,384 work words, and the
+ * reader needs far less. This figure is measured by the tests and not proved. */
 #define TRENCH_STACK 131072
 
-/* The refusals. Where several apply to a job, the answer is the first in this order: 2; then the job's records front to back,
- * and within a record 4, 3, 5, 9, 7, 8, 6; last 11. No call answers -10: a job without runs is planned. */
+/* The refusals, of jobs by trench_plan and of plan books by trench_read. Where several apply, the answer is the first:
+ *
+ *   job         2; then the records front to back, and within a record 4, 3, 5, 9, 7, 8, 6; last 11. No call answers -10: a
+ *               job without runs is planned.
+ *   plan book   the records front to back, and within a record 12, 8, 13; 14 only where nothing else is wrong, in the book's
+ *               order: the head's runs, each route's corners, the end's total.
+ *
+ * The place of a plan book's refusal is that of the kind byte of the record at fault, from 0; with 12 it is the book's length
+ * where the bytes end behind a record that is no end, and the byte after the end record where there is one. */
 enum trench_refusal {
     TRENCH_SHORT_WORK = 1,     /* work words under 16,384: never answered here, since the function has its own */
     TRENCH_SHORT_BUFFER = 2,   /* plan buffer under 40,960 bytes */
@@ -48,9 +64,15 @@ enum trench_refusal {
     TRENCH_OUT_OF_PLACE = 5,   /* first record no head, a second head, or a byte after the end record */
     TRENCH_WRONG_COUNT = 6,    /* the end's count differs from the runs read */
     TRENCH_RUN_NUMBER = 7,     /* run number 0, above 9,999 or not above the one before */
-    TRENCH_COORDINATE = 8,     /* coordinate outside -1,000,000 to 1,000,000 */
+    TRENCH_COORDINATE = 8,     /* coordinate of a run's point, or of a plan's corner, outside -1,000,000 to 1,000,000 */
     TRENCH_TOO_MANY_RUNS = 9,  /* a 33rd run */
-    TRENCH_NO_STAR = 11        /* well formed, but no star: no run meets every other while no two others meet */
+    TRENCH_NO_STAR = 11,       /* well formed, but no star: no run meets every other while no two others meet */
+    TRENCH_NOT_WHOLE = 12,     /* no whole records in the order head, routes with their corners, end: a record cut short, of
+                                * unknown kind or out of this order, no end, a byte after it, a 33rd route, a 128th corner */
+    TRENCH_NO_TURN = 13,       /* a corner equal to the one before it in its route, or sharing neither its x nor its y, or on
+                                * one row or one column with both of the two before it */
+    TRENCH_MISCOUNTED = 14     /* a head's runs, a route's corners or an end's total that differs from what it counts, or a
+                                * route with no corner */
 };
 
 /* Plans a job.
@@ -71,6 +93,60 @@ enum trench_refusal {
  * always returns. It may be called from several threads at once, each with its own plan buffer.
  */
 int32_t trench_plan(const uint8_t *job, size_t job_len, uint8_t *out, size_t out_len);
+
+/* ---- stored plans ----
+ *
+ * The functions below read a plan book. Each is lent the book alone, and some a few words for its answer. Every plan that
+ * trench_plan wrote is read. Whose job it is, the store knows: trench, saved, pits, centre, run numbers and meets are given as
+ * they stand and not judged. A route may have one corner, where its run's two points coincide. Routes and corners are counted
+ * from 0.
+ *
+ *     uint32_t places[TRENCH_PLACES], route[TRENCH_ROUTE];
+ *     int32_t corner[TRENCH_CORNER];
+ *     trench_places(book, book_len, places, TRENCH_PLACES);
+ *     for (size_t i = 0; trench_route(book, book_len, places, TRENCH_PLACES, i, route, TRENCH_ROUTE); i++)
+ *         for (size_t j = 0; trench_corner(book, book_len, places, TRENCH_PLACES, i, j, corner, TRENCH_CORNER); j++)
+ *             use(route[0], corner[0], corner[1]);
+ *
+ * What the caller owes: a pointer points to as many bytes or words as its length says, words are aligned as the machine wants
+ * them, and no pointer is null, even where its length is 0; the words that are written overlap nothing else that is lent, and
+ * are used by nobody else during the call. There is no other condition: any bytes may be given as a book, any words as
+ * places, any length and any index.
+ *
+ * Words behind those that an answer counts are never changed, nor is any byte of the book or any of the places handed in. All
+ * that is lent stays the caller's. The functions keep no pointer and no state, allocate nothing, do no input or output, and
+ * always return. They may be called from several threads at once, for the same book too, each with words of its own. */
+
+/* Reads a plan book whole. Gives its number of routes, from 0 to 32, or minus the refusal number, below 0. */
+int32_t trench_read(const uint8_t *book, size_t book_len);
+
+/* The place of the refusal that trench_read tells; 0 where it tells none. */
+size_t trench_read_place(const uint8_t *book, size_t book_len);
+
+/* The figures of a plan's head: job number, runs, trench, saved, pits, centre's run number. Writes them as 6 words and gives 6.
+ * A book that is refused, and fewer than 6 words, give 0, and nothing is written. */
+size_t trench_figures(const uint8_t *book, size_t book_len, uint32_t *figures, size_t figures_len);
+
+/* Where the routes stand in a book: the place of each route's record in order, then that of the end record, then 0 for the
+ * rest. Writes 33 words and gives 33; all of them are 0 for a book that is refused. Fewer than 33 words give 0, and nothing is
+ * written. The book is read whole, once; with its places in hand the two functions below need not read it again. */
+size_t trench_places(const uint8_t *book, size_t book_len, uint32_t *places, size_t places_len);
+
+/* Route `i` of a plan, with the places that trench_places gave for the same book: run number, meets, number of corners. Writes
+ * them as 3 words and gives 3. An index past the last route, a book that was refused, and fewer than 3 words give 0, and
+ * nothing is written.
+ * Other places are no fault: where place i is below place i + 1, a place past the last being 0, and a whole route record
+ * stands there in the book, its three fields are given; else the answer is 0. */
+size_t trench_route(const uint8_t *book, size_t book_len, const uint32_t *places, size_t places_len, size_t i, uint32_t *route,
+                    size_t route_len);
+
+/* Corner `j` of route `i` of a plan, with the places that trench_places gave for the same book: x, y. Writes them as 2 words and
+ * gives 2. An index past the last route or past its last corner, a book that was refused, and fewer than 2 words give 0, and
+ * nothing is written.
+ * Other places are no fault: where j is below 127, and a whole corner record stands in the book 7 + 9 * j bytes behind place i
+ * and begins before place i + 1, its two coordinates are given, whatever they are; else the answer is 0. */
+size_t trench_corner(const uint8_t *book, size_t book_len, const uint32_t *places, size_t places_len, size_t i, size_t j,
+                     int32_t *corner, size_t corner_len);
 
 #ifdef __cplusplus
 }

@@ -1,8 +1,10 @@
-/* The map screen in little: reads a job book, has it planned, and draws the plan as SVG.
+/* The map screen in little: reads a job book, has it planned, and draws the plan as SVG; or draws a stored plan book.
  *
- *   map JOB > plan.svg       a file, or - for standard input
+ *   map JOB > plan.svg            a file, or - for standard input
+ *   map --plan BOOK > plan.svg    the same
  *
- * Exit status 0: drawn. 1: the job was refused, and the refusal is told on standard error. 2: nothing could be read or written.
+ * Exit status 0: drawn. 1: the job or the plan book was refused, and the refusal is told on standard error. 2: nothing could be
+ * read or written.
  */
 #include <inttypes.h>
 #include <stdbool.h>
@@ -12,8 +14,7 @@
 
 #include "trench.h"
 
-enum { MOST_LINES = 64, MOST_CORNERS = 127, JOB_ROOM = 640, REFUSED = 1, FAILED = 2 };
-enum { PLAN_HEAD = 0x50, ROUTE = 0x4E, CORNER = 0x43, END = 0x5A };
+enum { JOB_ROOM = 640, REFUSED = 1, FAILED = 2 };
 
 struct point {
     int32_t x, y;
@@ -21,7 +22,7 @@ struct point {
 
 struct route {
     unsigned run, meets, corners;
-    struct point corner[MOST_CORNERS];
+    struct point corner[TRENCH_MOST_CORNERS];
 };
 
 struct plan {
@@ -36,16 +37,16 @@ static void fail(const char *name, const char *what)
     exit(FAILED);
 }
 
-/* ---- the job, and its refusal in words ---- */
+/* ---- files, and refusals in words ---- */
 
-/* Reads up to JOB_ROOM bytes: more cannot change the answer, since a job has at most 616. */
-static size_t read_job(const char *name, uint8_t *job)
+/* Reads up to so many bytes. More cannot change the answer where there is room for the longest book and a byte after it. */
+static size_t read_file(const char *name, uint8_t *bytes, size_t room)
 {
     bool standard = strcmp(name, "-") == 0;
     FILE *file = standard ? stdin : fopen(name, "rb");
     if (!file)
         fail(name, "cannot be opened");
-    size_t length = fread(job, 1, JOB_ROOM, file);
+    size_t length = fread(bytes, 1, room, file);
     if (ferror(file))
         fail(name, "cannot be read");
     if (!standard)
@@ -66,10 +67,21 @@ static const char *words(int32_t number)
         [TRENCH_COORDINATE] = "coordinate outside -1,000,000 to 1,000,000",
         [TRENCH_TOO_MANY_RUNS] = "a 33rd run",
         [TRENCH_NO_STAR] = "well formed, but no star",
+        [TRENCH_NOT_WHOLE] = "the bytes are not whole records of a plan in order",
+        [TRENCH_NO_TURN] = "a corner that stands twice, is not straight from the one before, or is no turn",
+        [TRENCH_MISCOUNTED] = "a count that differs from what it counts, or a route with no corner",
     };
     bool known = number >= 0 && (size_t)number < sizeof meaning / sizeof *meaning && meaning[number];
     return known ? meaning[number] : "a refusal that this program does not know";
 }
+
+static void refuse(const char *name, int32_t number, size_t place)
+{
+    fprintf(stderr, "map: %s: refused %" PRId32 " at %zu: %s\n", name, number, place, words(number));
+    exit(REFUSED);
+}
+
+/* ---- the job ---- */
 
 static int32_t answer(const uint8_t *job, size_t length)
 {
@@ -77,7 +89,7 @@ static int32_t answer(const uint8_t *job, size_t length)
     return trench_plan(job, length, out, sizeof out);
 }
 
-/* The place of a refusal. The answer holds only its number, but answers for shorter jobs tell the place: records are judged
+/* The place of a job's refusal. The answer holds only its number, but answers for shorter jobs tell the place: records are judged
  * front to back, so a job cut before its fault shows is refused as cut; and a record starts at p exactly if a byte of no kind,
  * put there, is refused as an unknown kind. The fault is in the last record that starts so, or it is the first byte behind a
  * whole job. */
@@ -102,63 +114,45 @@ static size_t place_of(int32_t number, const uint8_t *job, size_t length)
     return place;
 }
 
-/* ---- the plan book ---- */
-
-struct reader {
-    const uint8_t *bytes;
-    size_t length, at;
-};
-
-static uint32_t take(struct reader *r, int count)
+/* Reads a job and has it planned. Gives the plan's length. */
+static size_t plan_job(const char *name, uint8_t *book, size_t room)
 {
-    uint32_t value = 0;
-    for (int i = 0; i < count; i++) {
-        if (r->at == r->length)
-            fail("plan", "ends too early");
-        value |= (uint32_t)r->bytes[r->at++] << (8 * i);
-    }
-    return value;
+    uint8_t job[JOB_ROOM];
+    size_t length = read_file(name, job, sizeof job);
+    int32_t planned = trench_plan(job, length, book, room);
+    if (planned <= 0)
+        refuse(name, -planned, place_of(-planned, job, length));
+    return (size_t)planned;
 }
 
-static int32_t take_signed(struct reader *r)
-{
-    uint32_t word = take(r, 4);
-    return word <= INT32_MAX ? (int32_t)word : -(int32_t)(UINT32_MAX - word) - 1;
-}
+/* ---- the plan ---- */
 
-static void expect(struct reader *r, uint32_t kind)
+/* Takes over what the archive reads in a plan book. No route and no corner is given past the last. */
+static void read_plan(const char *name, const uint8_t *book, size_t length, struct plan *plan)
 {
-    if (take(r, 1) != kind)
-        fail("plan", "has a record of another kind than is due");
-}
-
-static void read_plan(const uint8_t *bytes, size_t length, struct plan *plan)
-{
-    struct reader r = { bytes, length, 0 };
-    expect(&r, PLAN_HEAD);
-    plan->job = take(&r, 4);
-    plan->runs = take(&r, 2);
-    plan->trench = take(&r, 4);
-    plan->saved = take(&r, 4);
-    plan->pits = take(&r, 2);
-    plan->centre = take(&r, 2);
-    if (plan->runs > TRENCH_MOST_RUNS)
-        fail("plan", "has too many runs");
-    for (unsigned i = 0; i < plan->runs; i++) {
+    uint32_t figures[TRENCH_FIGURES], places[TRENCH_PLACES], fields[TRENCH_ROUTE];
+    int32_t corner[TRENCH_CORNER];
+    int32_t routes = trench_read(book, length);
+    if (routes < 0)
+        refuse(name, -routes, trench_read_place(book, length));
+    if (!trench_figures(book, length, figures, TRENCH_FIGURES) || !trench_places(book, length, places, TRENCH_PLACES))
+        fail(name, "cannot be read as a plan");
+    plan->job = figures[0];
+    plan->trench = figures[2];
+    plan->saved = figures[3];
+    plan->pits = figures[4];
+    plan->centre = figures[5];
+    for (unsigned i = 0; trench_route(book, length, places, TRENCH_PLACES, i, fields, TRENCH_ROUTE); i++) {
         struct route *route = &plan->route[i];
-        expect(&r, ROUTE);
-        route->run = take(&r, 2);
-        route->meets = take(&r, 2);
-        route->corners = take(&r, 2);
-        if (route->corners == 0 || route->corners > MOST_CORNERS)
-            fail("plan", "has a route with no corner, or too many");
-        for (unsigned k = 0; k < route->corners; k++) {
-            expect(&r, CORNER);
-            route->corner[k].x = take_signed(&r);
-            route->corner[k].y = take_signed(&r);
+        plan->runs = i + 1;
+        route->run = fields[0];
+        route->meets = fields[1];
+        for (unsigned k = 0; trench_corner(book, length, places, TRENCH_PLACES, i, k, corner, TRENCH_CORNER); k++) {
+            route->corners = k + 1;
+            route->corner[k].x = corner[0];
+            route->corner[k].y = corner[1];
         }
     }
-    expect(&r, END);
 }
 
 static struct point first(const struct route *route)
@@ -176,46 +170,81 @@ static bool same(struct point p, struct point q)
     return p.x == q.x && p.y == q.y;
 }
 
-/* ---- survey lines, and the cables in each piece of them ---- */
+/* ---- lines, and the cables in each piece of them ---- */
+
+/* No more columns or rows than corners. */
+enum { MOST_LINES = TRENCH_MOST_RUNS * TRENCH_MOST_CORNERS };
+
+/* The columns or the rows of a map, rising. */
+struct lines {
+    int count;
+    int32_t at[MOST_LINES];
+};
+
+struct grid {
+    struct lines columns, rows;
+};
+
+/* How many lines lie below a value: the index of the line at it, where there is one. */
+static int below(const struct lines *lines, int32_t value)
+{
+    int low = 0, high = lines->count;
+    while (low < high) {
+        int middle = (low + high) / 2;
+        if (lines->at[middle] < value)
+            low = middle + 1;
+        else
+            high = middle;
+    }
+    return low;
+}
+
+static void add_line(struct lines *lines, int32_t value)
+{
+    int at = below(lines, value);
+    if (at < lines->count && lines->at[at] == value)
+        return;
+    memmove(lines->at + at + 1, lines->at + at, (size_t)(lines->count - at) * sizeof *lines->at);
+    lines->at[at] = value;
+    lines->count++;
+}
+
+/* The first and the last of some lines. A plan without routes has none: 0 then. */
+static int32_t first_line(const struct lines *lines)
+{
+    return lines->count ? lines->at[0] : 0;
+}
+
+static int32_t last_line(const struct lines *lines)
+{
+    return lines->count ? lines->at[lines->count - 1] : 0;
+}
+
+static void add_lines(struct grid *grid, struct point p)
+{
+    add_line(&grid->columns, p.x);
+    add_line(&grid->rows, p.y);
+}
+
+/* The survey lines run through the first and the last corner of every route, which are the runs' points. */
+static void lay_survey(const struct plan *plan, struct grid *grid)
+{
+    for (unsigned i = 0; i < plan->runs; i++) {
+        add_lines(grid, first(&plan->route[i]));
+        add_lines(grid, last(&plan->route[i]));
+    }
+}
+
+/* The lines through all corners. In a plan of the planner's these are the survey lines; in a stored one they need not be. */
+static void lay_grid(const struct plan *plan, struct grid *grid)
+{
+    for (unsigned i = 0; i < plan->runs; i++)
+        for (unsigned k = 0; k < plan->route[i].corners; k++)
+            add_lines(grid, plan->route[i].corner[k]);
+}
 
 /* A bit a route: 32 routes at most. */
 typedef uint32_t cables;
-
-struct grid {
-    int columns, rows;
-    int32_t column[MOST_LINES], row[MOST_LINES];
-    cables along_row[MOST_LINES][MOST_LINES];    /* from column a to a + 1 on row b, at [b][a] */
-    cables along_column[MOST_LINES][MOST_LINES]; /* from row b to b + 1 on column a, at [a][b] */
-};
-
-static int add_line(int32_t *line, int count, int32_t value)
-{
-    int at = 0;
-    while (at < count && line[at] < value)
-        at++;
-    if (at < count && line[at] == value)
-        return count;
-    if (count == MOST_LINES)
-        fail("plan", "has more than 64 columns or rows");
-    memmove(line + at + 1, line + at, (size_t)(count - at) * sizeof *line);
-    line[at] = value;
-    return count + 1;
-}
-
-static int line_at(const int32_t *line, int count, int32_t value)
-{
-    for (int at = 0; at < count; at++)
-        if (line[at] == value)
-            return at;
-    fail("plan", "has a corner off the survey lines");
-    return 0;
-}
-
-/* The last of a grid's columns or rows. A job without runs has none: 0 then, as the first is. */
-static int32_t last_line(const int32_t *line, int count)
-{
-    return count ? line[count - 1] : 0;
-}
 
 static void mark(cables *edges, int from, int to, cables who)
 {
@@ -223,29 +252,20 @@ static void mark(cables *edges, int from, int to, cables who)
         edges[at] |= who;
 }
 
-/* The survey lines run through the first and the last corner of every route, which are the runs' points. */
-static void lay_grid(const struct plan *plan, struct grid *grid)
+/* The cables along one row or column: edge n lies between the crossing lines n and n + 1. */
+static void lay_cables(const struct plan *plan, const struct grid *grid, bool row, int line, cables *edges)
 {
-    memset(grid, 0, sizeof *grid);
-    for (unsigned i = 0; i < plan->runs; i++) {
-        struct point ends[2] = { first(&plan->route[i]), last(&plan->route[i]) };
-        for (int k = 0; k < 2; k++) {
-            grid->columns = add_line(grid->column, grid->columns, ends[k].x);
-            grid->rows = add_line(grid->row, grid->rows, ends[k].y);
+    const struct lines *crossing = row ? &grid->columns : &grid->rows;
+    int32_t at = row ? grid->rows.at[line] : grid->columns.at[line];
+    memset(edges, 0, (size_t)crossing->count * sizeof *edges);
+    for (unsigned i = 0; i < plan->runs; i++)
+        for (unsigned k = 1; k < plan->route[i].corners; k++) {
+            struct point p = plan->route[i].corner[k - 1], q = plan->route[i].corner[k];
+            if (row && p.y == at && q.y == at)
+                mark(edges, below(crossing, p.x), below(crossing, q.x), (cables)1 << i);
+            if (!row && p.x == at && q.x == at)
+                mark(edges, below(crossing, p.y), below(crossing, q.y), (cables)1 << i);
         }
-    }
-    for (unsigned i = 0; i < plan->runs; i++) {
-        const struct route *route = &plan->route[i];
-        for (unsigned k = 1; k < route->corners; k++) {
-            struct point p = route->corner[k - 1], q = route->corner[k];
-            int a = line_at(grid->column, grid->columns, p.x), c = line_at(grid->column, grid->columns, q.x);
-            int b = line_at(grid->row, grid->rows, p.y), d = line_at(grid->row, grid->rows, q.y);
-            if (b == d)
-                mark(grid->along_row[b], a, c, (cables)1 << i);
-            else
-                mark(grid->along_column[a], b, d, (cables)1 << i);
-        }
-    }
 }
 
 /* ---- drawing ---- */
@@ -271,8 +291,8 @@ static double down(const struct view *v, int32_t y)
 
 static struct view fit(const struct grid *grid)
 {
-    double wide = (double)last_line(grid->column, grid->columns) - grid->column[0];
-    double high = (double)last_line(grid->row, grid->rows) - grid->row[0];
+    double wide = (double)last_line(&grid->columns) - first_line(&grid->columns);
+    double high = (double)last_line(&grid->rows) - first_line(&grid->rows);
     struct view v = { .scale = WIDEST };
     if (wide * v.scale > MAP_WIDTH)
         v.scale = MAP_WIDTH / wide;
@@ -283,8 +303,8 @@ static struct view fit(const struct grid *grid)
     v.height = high * v.scale + 2 * MARGIN + FOOT;
     v.left = (v.width - drawn) / 2;
     v.top = MARGIN;
-    v.west = grid->column[0];
-    v.north = last_line(grid->row, grid->rows);
+    v.west = first_line(&grid->columns);
+    v.north = last_line(&grid->rows);
     return v;
 }
 
@@ -307,16 +327,17 @@ static void draw_style(void)
          "</style>");
 }
 
-static void draw_survey_lines(const struct grid *grid, const struct view *v)
+/* The survey lines, across the whole map. */
+static void draw_survey_lines(const struct grid *survey, const struct grid *grid, const struct view *v)
 {
-    double west = across(v, grid->column[0]) - REACH, east = across(v, last_line(grid->column, grid->columns)) + REACH;
-    double north = down(v, last_line(grid->row, grid->rows)) - REACH, south = down(v, grid->row[0]) + REACH;
-    for (int a = 0; a < grid->columns; a++) {
-        double x = across(v, grid->column[a]);
+    double west = across(v, first_line(&grid->columns)) - REACH, east = across(v, last_line(&grid->columns)) + REACH;
+    double north = down(v, last_line(&grid->rows)) - REACH, south = down(v, first_line(&grid->rows)) + REACH;
+    for (int a = 0; a < survey->columns.count; a++) {
+        double x = across(v, survey->columns.at[a]);
         printf("<line class=\"survey\" x1=\"%.3f\" y1=\"%.3f\" x2=\"%.3f\" y2=\"%.3f\"/>\n", x, north, x, south);
     }
-    for (int b = 0; b < grid->rows; b++) {
-        double y = down(v, grid->row[b]);
+    for (int b = 0; b < survey->rows.count; b++) {
+        double y = down(v, survey->rows.at[b]);
         printf("<line class=\"survey\" x1=\"%.3f\" y1=\"%.3f\" x2=\"%.3f\" y2=\"%.3f\"/>\n", west, y, east, y);
     }
 }
@@ -343,16 +364,18 @@ static void draw_trench(const struct plan *plan, const struct view *v, struct po
     puts("</title></line>");
 }
 
-/* The trenches along one line: a piece for each stretch in which the same cables lie. */
+/* The trenches along one row or column: a piece for each stretch in which the same cables lie. */
 static void draw_line_of_trenches(const struct plan *plan, const struct grid *grid, const struct view *v, bool row, int line)
 {
-    const cables *edges = row ? grid->along_row[line] : grid->along_column[line];
-    int edge_count = (row ? grid->columns : grid->rows) - 1;
+    static cables edges[MOST_LINES];
+    const int32_t *column = grid->columns.at, *level = grid->rows.at;
+    int edge_count = (row ? grid->columns.count : grid->rows.count) - 1;
+    lay_cables(plan, grid, row, line, edges);
     for (int from = 0, to; from < edge_count; from = to) {
         for (to = from + 1; to < edge_count && edges[to] == edges[from]; to++)
             ;
-        struct point p = { grid->column[row ? from : line], grid->row[row ? line : from] };
-        struct point q = { grid->column[row ? to : line], grid->row[row ? line : to] };
+        struct point p = { column[row ? from : line], level[row ? line : from] };
+        struct point q = { column[row ? to : line], level[row ? line : to] };
         if (edges[from])
             draw_trench(plan, v, p, q, edges[from]);
     }
@@ -360,9 +383,9 @@ static void draw_line_of_trenches(const struct plan *plan, const struct grid *gr
 
 static void draw_trenches(const struct plan *plan, const struct grid *grid, const struct view *v)
 {
-    for (int b = 0; b < grid->rows; b++)
+    for (int b = 0; b < grid->rows.count; b++)
         draw_line_of_trenches(plan, grid, v, true, b);
-    for (int a = 0; a < grid->columns; a++)
+    for (int a = 0; a < grid->columns.count; a++)
         draw_line_of_trenches(plan, grid, v, false, a);
 }
 
@@ -554,7 +577,8 @@ static void draw_foot(const struct plan *plan, const struct view *v)
 
 static void draw(const struct plan *plan)
 {
-    static struct grid grid;
+    static struct grid survey, grid;
+    lay_survey(plan, &survey);
     lay_grid(plan, &grid);
     struct view v = fit(&grid);
     printf("<svg xmlns=\"http://www.w3.org/2000/svg\" viewBox=\"0 0 %.0f %.0f\" width=\"%.0f\" height=\"%.0f\">\n", v.width, v.height,
@@ -562,7 +586,7 @@ static void draw(const struct plan *plan)
     printf("<title>Trenches of job %" PRIu32 "</title>\n", plan->job);
     draw_style();
     puts("<rect width=\"100%\" height=\"100%\" fill=\"#fff\"/>");
-    draw_survey_lines(&grid, &v);
+    draw_survey_lines(&survey, &grid, &v);
     draw_trenches(plan, &grid, &v);
     draw_centre(plan, &v);
     draw_pits(plan, &v);
@@ -573,20 +597,17 @@ static void draw(const struct plan *plan)
 
 int main(int argc, char **argv)
 {
-    static uint8_t job[JOB_ROOM], out[TRENCH_PLAN_ROOM];
+    static uint8_t book[TRENCH_PLAN_ROOM];
     static struct plan plan;
-    if (argc != 2) {
-        fprintf(stderr, "usage: map JOB > plan.svg     a job book, or - for standard input\n");
+    bool stored = argc == 3 && strcmp(argv[1], "--plan") == 0;
+    if (argc != 2 && !stored) {
+        fprintf(stderr, "usage: map JOB > plan.svg            a job book, or - for standard input\n"
+                        "       map --plan BOOK > plan.svg    a stored plan book, or - for standard input\n");
         return FAILED;
     }
-    size_t length = read_job(argv[1], job);
-    int32_t planned = trench_plan(job, length, out, sizeof out);
-    if (planned <= 0) {
-        int32_t number = -planned;
-        fprintf(stderr, "map: %s: refused %" PRId32 " at %zu: %s\n", argv[1], number, place_of(number, job, length), words(number));
-        return REFUSED;
-    }
-    read_plan(out, (size_t)planned, &plan);
+    const char *name = argv[argc - 1];
+    size_t length = stored ? read_file(name, book, sizeof book) : plan_job(name, book, sizeof book);
+    read_plan(name, book, length, &plan);
     draw(&plan);
     if (fflush(stdout) != 0 || ferror(stdout))
         fail("standard output", "cannot be written");

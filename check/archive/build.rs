@@ -1,5 +1,5 @@
-//! Links the archive that the variable TRENCH_ARCHIVE names (default: what `rt staticlib planner` writes), and the plain C
-//! planner of `bench/`, which `cc` compiles at -O3, plain and tuned.
+//! Links the archive that the variable TRENCH_ARCHIVE names (default: what `rt staticlib trench` writes), and the plain C
+//! planner and reader of `bench/`, which `cc` compiles at -O3, the planner plain and tuned.
 
 use std::env;
 use std::path::{Path, PathBuf};
@@ -10,7 +10,7 @@ fn main() {
     let out = PathBuf::from(env::var("OUT_DIR").expect("cargo sets it"));
     println!("cargo:rerun-if-env-changed=TRENCH_ARCHIVE");
     let archive =
-        env::var("TRENCH_ARCHIVE").map_or_else(|_| here.join("../../target/staticlib/libplanner.a"), PathBuf::from);
+        env::var("TRENCH_ARCHIVE").map_or_else(|_| here.join("../../target/staticlib/libtrench.a"), PathBuf::from);
     let archive = archive.canonicalize().unwrap_or_else(|error| panic!("the archive {}: {error}", archive.display()));
     let copy = out.join("libtrench_archive_under_test.a");
     std::fs::copy(&archive, &copy).expect("the archive can be copied");
@@ -19,9 +19,15 @@ fn main() {
     println!("cargo:rustc-env=TRENCH_ARCHIVE_COPY={}", copy.display());
     let tuned = ["-DTUNED", "-Dtable_plan=tuned_plan", "-Dtable_plan_clearing=tuned_plan_clearing"];
     let tuned = [&tuned[..], &["-Dtable_frame=tuned_frame", "-Dtable_rounds=tuned_rounds"]].concat();
+    let asked = ["-Dplain_read=trench_read", "-Dplain_places=trench_places", "-Dplain_route=trench_route"];
+    let rounds = ["-Dplain_read_rounds=archive_read_rounds", "-Dplain_ask_rounds=archive_ask_rounds"];
+    let asked = [&asked[..], &["-Dplain_corner=trench_corner"], &rounds].concat();
     for (source, name, words) in [
         ("../bench/table.c", "trench_table", &[][..]),
         ("../bench/table.c", "trench_tuned", &tuned),
+        ("../bench/ask.c", "trench_plain_ask", &[]),
+        ("../bench/ask.c", "trench_archive_ask", &asked),
+        ("../bench/read.c", "trench_plain_read", &[]),
         ("c/stray.c", "trench_stray", &[]),
     ] {
         compile(&here.join(source), &out, name, words);

@@ -1,9 +1,6 @@
 //! The comparison of a planner, called as C calls `trench_plan`, with the independent reading: many jobs of all kinds, each
 //! with every size of plan buffer that matters.
 
-use std::collections::BTreeMap;
-use std::fmt;
-
 use crate::book::{hex, job_bytes};
 use crate::damage;
 use crate::generate::{self, KINDS};
@@ -13,6 +10,7 @@ use crate::line;
 use crate::listing;
 use crate::random::Random;
 use crate::refusal::{self, PLAN_ROOM, Refusal};
+use crate::report::{Report, Subject};
 
 /// The lengths of plan buffers that every job is tried with. In 22 bytes a blank job's plan has room, and they are too few.
 pub const SIZES: [usize; 6] = [0, 1, 22, PLAN_ROOM - 1, PLAN_ROOM, PLAN_ROOM + 1];
@@ -100,62 +98,6 @@ pub fn case(seed: u64, n: u64) -> Case {
     }
 }
 
-/// What was tried, and what was wrong.
-#[derive(Default)]
-pub struct Report {
-    /// The number of job books.
-    pub jobs: usize,
-    /// The number of calls.
-    pub calls: usize,
-    /// The number of accepted jobs by their number of runs.
-    pub accepted: BTreeMap<usize, usize>,
-    /// The number of refused jobs by refusal number.
-    pub refused: BTreeMap<i32, usize>,
-    /// The number of bytes of the longest plan.
-    pub longest_plan: usize,
-    /// What was wrong, in words, with the job that shows it.
-    pub faults: Vec<String>,
-}
-
-impl Report {
-    /// Adds what another report says.
-    pub fn add(&mut self, other: Report) {
-        self.jobs += other.jobs;
-        self.calls += other.calls;
-        self.longest_plan = self.longest_plan.max(other.longest_plan);
-        other.accepted.into_iter().for_each(|(runs, count)| *self.accepted.entry(runs).or_default() += count);
-        other.refused.into_iter().for_each(|(number, count)| *self.refused.entry(number).or_default() += count);
-        self.faults.extend(other.faults);
-    }
-
-    /// What of document 01 no job of this report tried: a refusal among 3 to 9 and 11, or a number of runs from 0 to 32. A
-    /// report of many jobs should have nothing here.
-    pub fn untried(&self) -> Vec<String> {
-        let refusals = (3..=9).chain([11]);
-        let refusals = refusals.filter(|number| !self.refused.contains_key(number)).map(|n| format!("refusal {n}"));
-        let runs = (0..=32).filter(|runs| !self.accepted.contains_key(runs)).map(|n| format!("a star of {n} runs"));
-        refusals.chain(runs).collect()
-    }
-}
-
-impl fmt::Display for Report {
-    fn fmt(&self, out: &mut fmt::Formatter) -> fmt::Result {
-        let accepted: usize = self.accepted.values().sum();
-        let of = |runs: usize| self.accepted.get(&runs).copied().unwrap_or(0);
-        let refused: Vec<String> = self.refused.iter().map(|(number, count)| format!("{number}: {count}")).collect();
-        write!(
-            out,
-            "{} jobs, {} calls: {accepted} accepted ({} blank, {} of 32 runs, longest plan {} bytes)",
-            self.jobs,
-            self.calls,
-            of(0),
-            of(32),
-            self.longest_plan
-        )?;
-        write!(out, "; refused by number: {}; {} faults", refused.join(", "), self.faults.len())
-    }
-}
-
 /// What is due for a job: a plan that the judge passes, or a refusal.
 type Due = Result<Judge, Refusal>;
 
@@ -181,7 +123,7 @@ pub fn try_case(caller: &mut dyn Caller, case: &Case, random: &mut Random, repor
         }
         faults.extend(found.iter().map(|fault| format!("buffer of {size}: {fault}")));
     }
-    report.jobs += 1;
+    report.books += 1;
     report.longest_plan = report.longest_plan.max(plan.len());
     report.faults.extend(faults.iter().map(|fault| format!("{} ({}): {fault}", case.what, hex(&case.bytes))));
 }
@@ -247,14 +189,14 @@ pub fn try_listing(case: &Case, printed: &str, report: &mut Report) {
             Err(fault) => faults.push(format!("no listing of a plan, but a plan is due: {fault}")),
         },
     }
-    report.jobs += 1;
+    report.books += 1;
     report.calls += 1;
     report.faults.extend(faults.iter().map(|fault| format!("{} ({}): {fault}", case.what, hex(&case.bytes))));
 }
 
 /// Tries the cases of a seed from `from` on, in steps of `step`, below `to`. Each caller thread takes its own residue.
 pub fn try_cases(caller: &mut dyn Caller, seed: u64, from: u64, to: u64, step: u64) -> Report {
-    let mut report = Report::default();
+    let mut report = Report::of(Subject::Jobs);
     let mut n = from;
     while n < to {
         let before = report.faults.len();

@@ -59,7 +59,7 @@ pub fn damaged(random: &mut Random, way: usize) -> Damaged {
 }
 
 /// The bytes up to a place, and then anything: what comes behind the record at fault does not matter.
-fn then_anything(random: &mut Random, bytes: &[u8], place: usize) -> Vec<u8> {
+pub(crate) fn then_anything(random: &mut Random, bytes: &[u8], place: usize) -> Vec<u8> {
     let mut changed = bytes[..place].to_vec();
     match random.below(3) {
         0 => changed.extend(&bytes[place..]),
@@ -69,7 +69,8 @@ fn then_anything(random: &mut Random, bytes: &[u8], place: usize) -> Vec<u8> {
     changed
 }
 
-fn made(what: &'static str, bytes: Vec<u8>, number: i32, place: usize) -> Damaged {
+/// A book that is to be refused in this way.
+pub(crate) fn made(what: &'static str, bytes: Vec<u8>, number: i32, place: usize) -> Damaged {
     Damaged { bytes, refusal: Refusal { number, place }, what }
 }
 
@@ -166,7 +167,7 @@ fn blank(random: &mut Random, bytes: &[u8]) -> Damaged {
 }
 
 /// A coordinate just outside its range, or far outside.
-fn outside(random: &mut Random) -> i32 {
+pub(crate) fn outside(random: &mut Random) -> i32 {
     let far = if random.once_in(2) { random.from(FAR + 1, i32::MAX) } else { random.from(i32::MIN, -FAR - 1) };
     *random.pick(&[FAR + 1, -FAR - 1, i32::MIN, i32::MAX, far])
 }

@@ -1,9 +1,12 @@
-//! A second reading of documents 000 (geometry) and 01 (bytes, limits, order), which shares no code with the proved planner:
-//! an independent planner, a judge of plans, a generator of jobs, and the comparison of a planner with all three.
+//! A second reading of documents 000 (geometry), 01 (bytes, limits, order) and 02 (later requests), which shares no code with
+//! the proved planner: an independent planner, a reader and a judge of plans, generators of jobs and of plan books, and the
+//! comparison of a planner and a reader with all of these.
 
 #![forbid(unsafe_code)]
 
 pub mod book;
+pub mod book_cases;
+pub mod book_damage;
 pub mod compare;
 pub mod damage;
 pub mod edges;
@@ -19,5 +22,7 @@ pub mod listing;
 pub mod plan_book;
 pub mod planner;
 pub mod random;
+pub mod read_back;
 pub mod refusal;
+pub mod report;
 pub mod text;

@@ -1,9 +1,21 @@
-//! Plan books (01, "Plan book"): written from a plan, and read back with nothing judged but that the bytes are records in
-//! order.
+//! Plan books (01, "Plan book"): written from a plan, and read back (02, C-12).
 
 use crate::book::{CORNER, END, PLAN_HEAD, ROUTE};
-use crate::job::{Job, Point};
+use crate::job::{FAR, Job, MOST_RUNS, Point};
 use crate::planner::Plan;
+use crate::refusal::{Refusal, half, point, word};
+
+/// The most corners of one route.
+pub const MOST_CORNERS: usize = 127;
+
+/// The length of a head, with its kind byte.
+pub const HEAD_LENGTH: usize = 1 + 18;
+/// The length of a route record, without the corners behind it.
+pub const ROUTE_LENGTH: usize = 1 + 6;
+/// The length of a corner.
+pub const CORNER_LENGTH: usize = 1 + 8;
+/// The length of an end.
+pub const END_LENGTH: usize = 1 + 2;
 
 /// What a plan book says.
 #[derive(Clone, Debug, PartialEq, Eq)]
@@ -39,34 +51,6 @@ pub struct RouteRecord {
     pub corners: Vec<Point>,
 }
 
-/// The bytes still to be read.
-struct Reader<'a> {
-    bytes: &'a [u8],
-    place: usize,
-}
-
-impl Reader<'_> {
-    fn take<const N: usize>(&mut self, what: &str) -> Result<[u8; N], String> {
-        let found = self.bytes.get(self.place..self.place + N);
-        let found =
-            found.ok_or_else(|| format!("the plan ends inside {what}, which starts before byte {}", self.place))?;
-        self.place += N;
-        Ok(found.try_into().expect("N bytes were taken"))
-    }
-
-    fn half(&mut self, what: &str) -> Result<u16, String> {
-        self.take(what).map(u16::from_le_bytes)
-    }
-
-    fn word(&mut self, what: &str) -> Result<u32, String> {
-        self.take(what).map(u32::from_le_bytes)
-    }
-
-    fn coordinate(&mut self, what: &str) -> Result<i32, String> {
-        self.take(what).map(i32::from_le_bytes)
-    }
-}
-
 impl PlanBook {
     /// The book of a plan for this job.
     pub fn of(job: &Job, plan: &Plan) -> PlanBook {
@@ -90,45 +74,42 @@ impl PlanBook {
         }
     }
 
-    /// The book of these bytes, or what keeps them from being one.
-    pub fn read(bytes: &[u8]) -> Result<PlanBook, String> {
-        let mut from = Reader { bytes, place: 0 };
-        let [kind] = from.take("the head")?;
-        if kind != PLAN_HEAD {
-            return Err(format!("the plan starts with kind 0x{kind:02X} and not with a head"));
-        }
-        let mut book = PlanBook {
-            job: from.word("the head")?,
-            runs: from.half("the head")?,
-            trench: from.word("the head")?,
-            saved: from.word("the head")?,
-            pits: from.half("the head")?,
-            centre: from.half("the head")?,
-            routes: Vec::new(),
-            total: 0,
+    /// The book of these bytes, or the first refusal that applies (02, C-12): 12, 8 and 13 record by record, and 14 only after
+    /// a whole book.
+    pub fn read(bytes: &[u8]) -> Result<PlanBook, Refusal> {
+        let book = whole_records(bytes)?;
+        book.counts_agree()?;
+        Ok(book)
+    }
+
+    /// Refusal 14, in the book's order: the head's runs, each route's corners, the end's total.
+    fn counts_agree(&self) -> Result<(), Refusal> {
+        let agree = |said: u16, counted: usize, place: usize| {
+            if usize::from(said) == counted { Ok(()) } else { Err(Refusal { number: 14, place }) }
         };
-        loop {
-            let place = from.place;
-            let [kind] = from.take("the list of routes, with no end record")?;
-            match (kind, book.routes.last_mut()) {
-                (ROUTE, _) => {
-                    let (run, meets) = (from.half("a route")?, from.half("a route")?);
-                    book.routes.push(RouteRecord { run, meets, count: from.half("a route")?, corners: Vec::new() });
-                }
-                (CORNER, Some(route)) => {
-                    let x = from.coordinate("a corner")?;
-                    route.corners.push(Point::new(x, from.coordinate("a corner")?));
-                }
-                (CORNER, None) => return Err(format!("byte {place}: a corner before any route")),
-                (END, _) => break,
-                _ => return Err(format!("byte {place}: kind 0x{kind:02X} has no place in a plan")),
+        let places = self.places();
+        agree(self.runs, self.routes.len(), 0)?;
+        for (route, &place) in self.routes.iter().zip(&places) {
+            agree(route.count, route.corners.len(), place)?;
+            if route.corners.is_empty() {
+                return Err(Refusal { number: 14, place });
             }
         }
-        book.total = from.half("the end")?;
-        if from.place < bytes.len() {
-            return Err(format!("byte {}: a byte after the end record", from.place));
+        agree(self.total, self.corners(), places[self.routes.len()])
+    }
+
+    /// The number of corner records.
+    pub fn corners(&self) -> usize {
+        self.routes.iter().map(|route| route.corners.len()).sum()
+    }
+
+    /// The place of each route record, and then that of the end record.
+    pub fn places(&self) -> Vec<usize> {
+        let mut places = vec![HEAD_LENGTH];
+        for route in &self.routes {
+            places.push(places[places.len() - 1] + ROUTE_LENGTH + CORNER_LENGTH * route.corners.len());
         }
-        Ok(book)
+        places
     }
 
     /// The bytes of the book.
@@ -152,4 +133,91 @@ impl PlanBook {
         bytes.extend(self.total.to_le_bytes());
         bytes
     }
+}
+
+/// The length of a record of this kind, with its kind byte; none for an unknown kind.
+pub fn record_length(kind: u8) -> Option<usize> {
+    match kind {
+        PLAN_HEAD => Some(HEAD_LENGTH),
+        ROUTE => Some(ROUTE_LENGTH),
+        CORNER => Some(CORNER_LENGTH),
+        END => Some(END_LENGTH),
+        _ => None,
+    }
+}
+
+/// The records of a book with no count compared, or the first of the refusals 12, 8 and 13: front to back, and within a record
+/// in this order.
+fn whole_records(bytes: &[u8]) -> Result<PlanBook, Refusal> {
+    let mut read: Option<PlanBook> = None;
+    let mut place = 0;
+    loop {
+        let refused = |number: i32| Refusal { number, place };
+        let kind = *bytes.get(place).ok_or(refused(12))?;
+        let length = record_length(kind).ok_or(refused(12))?;
+        let body = bytes.get(place + 1..place + length).ok_or(refused(12))?;
+        match (kind, &mut read) {
+            (PLAN_HEAD, None) => read = Some(head(body)),
+            (ROUTE, Some(book)) if book.routes.len() < MOST_RUNS => book.routes.push(route(body)),
+            (CORNER, Some(book)) => {
+                let route = book.routes.last_mut().filter(|route| route.corners.len() < MOST_CORNERS);
+                let corners = &mut route.ok_or(refused(12))?.corners;
+                let corner = point(body, 0);
+                if !in_range(corner) {
+                    return Err(refused(8));
+                }
+                if !turns(corners, corner) {
+                    return Err(refused(13));
+                }
+                corners.push(corner);
+            }
+            (END, Some(_)) if place + length < bytes.len() => {
+                return Err(Refusal { number: 12, place: place + length });
+            }
+            (END, Some(book)) => {
+                book.total = half(body, 0);
+                return Ok(read.expect("the first record is a head"));
+            }
+            _ => return Err(refused(12)),
+        }
+        place += length;
+    }
+}
+
+fn head(body: &[u8]) -> PlanBook {
+    PlanBook {
+        job: word(body, 0),
+        runs: half(body, 4),
+        trench: word(body, 6),
+        saved: word(body, 10),
+        pits: half(body, 14),
+        centre: half(body, 16),
+        routes: Vec::new(),
+        total: 0,
+    }
+}
+
+fn route(body: &[u8]) -> RouteRecord {
+    RouteRecord { run: half(body, 0), meets: half(body, 2), count: half(body, 4), corners: Vec::new() }
+}
+
+fn in_range(p: Point) -> bool {
+    [p.x, p.y].iter().all(|value| (-FAR..=FAR).contains(value))
+}
+
+/// Whether a corner may stand behind these of its route: straight from the last one, and not on one line with the last two.
+fn turns(before: &[Point], next: Point) -> bool {
+    match *before {
+        [] => true,
+        [last] => straight(last, next),
+        [.., other, last] => {
+            let on_one_line = other.x == last.x && last.x == next.x || other.y == last.y && last.y == next.y;
+            straight(last, next) && !on_one_line
+        }
+    }
+}
+
+/// Whether two different points stand on one row or on one column.
+fn straight(p: Point, q: Point) -> bool {
+    p != q && (p.x == q.x || p.y == q.y)
 }

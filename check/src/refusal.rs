@@ -1,4 +1,4 @@
-//! The refusals (01, "What a call says and leaves"): reading a job book, and the number and place of what is wrong with it.
+//! The refusals (01, "What a call says and leaves", and 02): number and place, and reading a job book.
 
 use std::fmt;
 
@@ -12,9 +12,9 @@ pub const PLAN_ROOM: usize = 40_960;
 /// A refusal's number and place.
 #[derive(Clone, Copy, Debug, PartialEq, Eq)]
 pub struct Refusal {
-    /// 1 to 9, or 11.
+    /// 1 to 9, or 11 to 14.
     pub number: i32,
-    /// The offset of the record at fault, or what document 01 says instead.
+    /// The offset of the record at fault, or what documents 01 and 02 say instead.
     pub place: usize,
 }
 
@@ -24,7 +24,7 @@ impl fmt::Display for Refusal {
     }
 }
 
-/// What a number means, in the words of document 01.
+/// What a number means, in the words of documents 01 and 02.
 pub fn words(number: i32) -> &'static str {
     match number {
         1 => "work sheet under 16,384 words",
@@ -37,11 +37,14 @@ pub fn words(number: i32) -> &'static str {
         8 => "coordinate outside -1,000,000 to 1,000,000",
         9 => "a 33rd run",
         11 => "well formed, but no star",
-        _ => "no refusal of document 01",
+        12 => "the bytes are not whole records of a plan in order",
+        13 => "a corner that stands twice, is not straight from the one before, or is no turn",
+        14 => "a count that differs from what it counts, or a route with no corner",
+        _ => "no refusal",
     }
 }
 
-/// The length of a record of this kind, with its kind byte; none for an unknown kind.
+/// The length of a job book's record of this kind, with its kind byte; none for an unknown kind.
 pub fn record_length(kind: u8) -> Option<usize> {
     match kind {
         JOB_HEAD => Some(1 + 4),
@@ -51,15 +54,18 @@ pub fn record_length(kind: u8) -> Option<usize> {
     }
 }
 
-fn half(body: &[u8], at: usize) -> u16 {
+/// The 2 bytes from here on as a number.
+pub(crate) fn half(body: &[u8], at: usize) -> u16 {
     u16::from_le_bytes([body[at], body[at + 1]])
 }
 
-fn word(body: &[u8], at: usize) -> u32 {
+/// The 4 bytes from here on as a number.
+pub(crate) fn word(body: &[u8], at: usize) -> u32 {
     u32::from_le_bytes([body[at], body[at + 1], body[at + 2], body[at + 3]])
 }
 
-fn point(body: &[u8], at: usize) -> Point {
+/// The 8 bytes from here on as a point.
+pub(crate) fn point(body: &[u8], at: usize) -> Point {
     Point::new(word(body, at) as i32, word(body, at + 4) as i32)
 }
 

@@ -1,10 +1,11 @@
 //! The comparison passes a right planner, and notices each wrong one.
 
-use trench_check::compare::{Called, Caller, Report, SIZES, case, try_cases, try_listing};
+use trench_check::compare::{Called, Caller, SIZES, case, try_cases, try_listing};
 use trench_check::listing;
 use trench_check::plan_book::PlanBook;
 use trench_check::planner;
 use trench_check::refusal::{self, PLAN_ROOM};
+use trench_check::report::{Report, Subject};
 
 /// A planner in Rust, called with exactly the lent slices.
 struct Plain<F>(F);
@@ -58,17 +59,14 @@ fn changed(job: &[u8], out: &mut [u8], change: impl FnOnce(&mut PlanBook)) -> i3
 fn a_right_planner_passes() {
     let report = report(right);
     assert_eq!(report.faults, Vec::<String>::new());
-    assert_eq!((report.jobs, report.calls), (JOBS as usize, SIZES.len() * JOBS as usize));
+    assert_eq!((report.books, report.calls), (JOBS as usize, SIZES.len() * JOBS as usize));
 }
 
 #[test]
 fn wrong_answers_are_noticed() {
     assert_noticed(|_, _| -11, "a plan is due");
     assert_noticed(|_, _| 0, "the answer is 0 and should be -2");
-    assert_noticed(
-        |job, out| if out.len() < 40_000 { -2 } else { right(job, &mut out.to_vec()) },
-        "the plan starts with kind",
-    );
+    assert_noticed(|job, out| if out.len() < 40_000 { -2 } else { right(job, &mut out.to_vec()) }, "refused 12 at 0");
     assert_noticed(|job, out| right(job, out).max(-10), "the answer is -10 and should be -11");
     assert_noticed(|job, out| if job.is_empty() { -4 } else { right(job, out) }, "the answer is -4 and should be");
     let blank_refused = |job: &[u8], out: &mut [u8]| match right(job, out) {
@@ -125,7 +123,7 @@ fn right_listing(job: &[u8]) -> String {
 }
 
 fn listing_faults(list: impl Fn(&[u8]) -> String) -> Vec<String> {
-    let mut report = Report::default();
+    let mut report = Report::of(Subject::Jobs);
     for n in 0..JOBS {
         let case = case(15, n);
         try_listing(&case, &list(&case.bytes), &mut report);

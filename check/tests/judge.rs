@@ -1,6 +1,7 @@
 //! The judge finds nothing wrong with right plans, and catches every spoilt one, in words that say what was spoilt.
 
 use trench_check::book::job_bytes;
+use trench_check::book_cases::count;
 use trench_check::enumerate::Path;
 use trench_check::generate::{self, KINDS};
 use trench_check::graph::Survey;
@@ -63,7 +64,8 @@ fn a_blank_job_has_one_plan() {
     let (_, other) = example();
     let mut more = plan.clone();
     more.routes.push(other.routes[1].clone());
-    assert_says(&judge(&bytes, &more.bytes()).join("\n"), "the number of route records is 1 and should be 0");
+    count(&mut more);
+    assert_says(&judge(&bytes, &more.bytes()).join("\n"), "the head's number of runs is 1 and should be 0");
 }
 
 #[test]
@@ -73,55 +75,42 @@ fn figures_off_by_one_are_caught() {
     assert_says(&verdict_on(|book| book.saved += 1), "saved is 41, but the routes save 40");
     assert_says(&verdict_on(|book| book.pits -= 1), "pits is 5 and should be 6");
     assert_says(&verdict_on(|book| book.centre += 1), "the head's centre is 2 and should be 1");
-    assert_says(&verdict_on(|book| book.runs += 1), "the head's number of runs is 4 and should be 3");
     assert_says(&verdict_on(|book| book.job ^= 1), "the head's job number is 6 and should be 7");
-    assert_says(&verdict_on(|book| book.total += 1), "the end's total of corners is 9 and should be 8");
     assert_says(&verdict_on(|book| book.routes[1].meets += 1), "run 2: meets is 2 and should be 1");
-    assert_says(&verdict_on(|book| book.routes[1].count += 1), "run 2: the record announces 3 corners, but 2 follow");
     assert_says(&verdict_on(|book| book.routes[1].run = 9), "run 2: its route record names run 9");
 }
 
 #[test]
 fn moved_corners_are_caught() {
-    let moved = verdict_on(|book| book.routes[0].corners[1] = Point::new(0, 11));
+    let moved = verdict_on(|book| {
+        book.routes[0].corners[1] = Point::new(0, 11);
+        book.routes[0].corners[2] = Point::new(40, 11);
+    });
     assert_says(&moved, "run 1: its corner 0,11 is no crossing of survey lines");
-    assert_says(&moved, "run 1: its piece from 0,11 to 40,10 is not straight");
-    let to_a_crossing = verdict_on(|book| book.routes[0].corners[1] = Point::new(0, 20));
-    assert_says(&to_a_crossing, "run 1: its piece from 0,20 to 40,10 is not straight");
-    let start = verdict_on(|book| book.routes[0].corners[0] = Point::new(20, 0));
-    assert_says(&start, "run 1: its first corner 20,0 is not its first point 0,0");
+    let start = verdict_on(|book| book.routes[0].corners[0] = Point::new(0, 50));
+    assert_says(&start, "run 1: its first corner 0,50 is not its first point 0,0");
     let end = verdict_on(|book| book.routes[2].corners[1] = Point::new(20, 30));
     assert_says(&end, "run 3: its last corner 20,30 is not its second point 20,50");
     let detour = verdict_on(|book| {
         let out_and_back =
             [Point::new(20, 20), Point::new(20, 0), Point::new(40, 0), Point::new(40, 50), Point::new(20, 50)];
         book.routes[2].corners = out_and_back.to_vec();
-        book.routes[2].count = 5;
-        book.total += 3;
+        count(book);
     });
     assert_says(&detour, "run 3: its route is 110 long, but its points are 30 apart");
 }
 
 #[test]
-fn corners_that_are_none_are_caught() {
-    let straight_on = verdict_on(|book| {
-        book.routes[1].corners.insert(1, Point::new(20, 10));
-        book.routes[1].count += 1;
-        book.total += 1;
-    });
-    assert_says(&straight_on, "run 2: it does not turn at its corner 20,10");
-    let twice = verdict_on(|book| {
-        book.routes[1].corners.push(Point::new(40, 10));
-        book.routes[1].count += 1;
-        book.total += 1;
-    });
-    assert_says(&twice, "run 2: its corner 40,10 stands twice");
-    let none = verdict_on(|book| {
-        book.routes[1].corners.clear();
-        book.routes[1].count = 0;
-        book.total -= 2;
-    });
-    assert_says(&none, "run 2: it has no corner");
+fn books_that_are_not_read_are_caught() {
+    let refused = |spoil: &dyn Fn(&mut PlanBook)| verdict_on(spoil);
+    assert_eq!(refused(&|book| book.runs += 1), "refused 14 at 0");
+    assert_eq!(refused(&|book| book.total += 1), "refused 14 at 112");
+    assert_eq!(refused(&|book| book.routes[1].count += 1), "refused 14 at 62");
+    assert_eq!(refused(&|book| book.routes[1].corners.clear()), "refused 14 at 62");
+    assert_eq!(refused(&|book| book.routes[0].corners[1] = Point::new(0, 11)), "refused 13 at 44");
+    assert_eq!(refused(&|book| book.routes[1].corners.insert(1, Point::new(20, 10))), "refused 13 at 87");
+    assert_eq!(refused(&|book| book.routes[1].corners.push(Point::new(40, 10))), "refused 13 at 87");
+    assert_eq!(refused(&|book| book.routes[2].corners[1].y = 1_000_001), "refused 8 at 103");
 }
 
 #[test]
@@ -130,6 +119,7 @@ fn swapped_and_missing_routes_are_caught() {
         let (first, second) = (book.routes[0].corners.clone(), book.routes[1].corners.clone());
         book.routes[0].corners = second;
         book.routes[1].corners = first;
+        count(book);
     });
     assert_says(&swapped, "run 1: its first corner 0,10 is not its first point 0,0");
     assert_says(&verdict_on(|book| book.routes.swap(1, 2)), "run 2: its route record names run 3");
@@ -137,8 +127,11 @@ fn swapped_and_missing_routes_are_caught() {
         &verdict_on(|book| book.routes[0].corners.reverse()),
         "run 1: its first corner 40,30 is not its first point 0,0",
     );
-    let missing = verdict_on(|book| drop(book.routes.pop()));
-    assert_says(&missing, "the number of route records is 2 and should be 3");
+    let missing = verdict_on(|book| {
+        book.routes.pop();
+        count(book);
+    });
+    assert_says(&missing, "the head's number of runs is 2 and should be 3");
 }
 
 /// Every run along its row and then along its column, with all figures measured on these routes.
@@ -204,6 +197,6 @@ fn broken_books_are_caught() {
         assert!(!judge(&job, &whole[..length]).is_empty(), "cut to {length}");
     }
     let more = [&whole[..], &[0]].concat();
-    assert_says(&judge(&job, &more).join("\n"), "a byte after the end record");
+    assert_eq!(judge(&job, &more), ["refused 12 at 115"]);
     assert_says(&judge(&job[..10], &whole).join("\n"), "no plan is due: the job is refused 3 at 5");
 }

@@ -1,9 +1,14 @@
-/* How much stack trench_plan needs: runs it on a stack of its own that was painted before, and looks how far it was used.
+/* How much stack the archive's functions need: runs them on a stack of its own that was painted before, and looks how far it was
+ * used.
  *
- *   stack JOB..      prints the greatest need in bytes; exit status 1 where it is above TRENCH_STACK
+ *   stack JOB..            prints the greatest need in bytes, of planning the jobs and of reading plan books
+ *   stack --read JOB..     the same of reading alone: the jobs' plans, the longest book, and the jobs' bytes, which are no plan
+ *
+ * Exit status 1 where the need is above TRENCH_STACK, 2 where something went wrong.
  */
 #define _XOPEN_SOURCE 700
 #include <pthread.h>
+#include <stdbool.h>
 #include <stdio.h>
 #include <stdlib.h>
 #include <string.h>
@@ -13,10 +18,11 @@
 enum { ROOM = 1 << 21, PAINT = 0x5C };
 
 struct call {
-    uint8_t job[4096];
-    size_t length;
-    uint8_t *out;
-    int32_t answer;
+    uint8_t job[4096], book[TRENCH_PLAN_ROOM];
+    size_t length, book_length;
+    int32_t answer, corner[TRENCH_CORNER];
+    uint32_t figures[TRENCH_FIGURES], places[TRENCH_PLACES], route[TRENCH_ROUTE];
+    size_t place, corners;
 };
 
 static void *nothing(void *call)
@@ -27,7 +33,24 @@ static void *nothing(void *call)
 static void *planned(void *given)
 {
     struct call *call = given;
-    call->answer = trench_plan(call->job, call->length, call->out, TRENCH_PLAN_ROOM);
+    call->answer = trench_plan(call->job, call->length, call->book, sizeof call->book);
+    return given;
+}
+
+/* Calls every function of the reader, and asks for every corner. */
+static void *read_back(void *given)
+{
+    struct call *call = given;
+    const uint8_t *book = call->book;
+    size_t length = call->book_length;
+    call->answer = trench_read(book, length);
+    call->place = trench_read_place(book, length);
+    call->corners = 0;
+    trench_figures(book, length, call->figures, TRENCH_FIGURES);
+    trench_places(book, length, call->places, TRENCH_PLACES);
+    for (size_t i = 0; trench_route(book, length, call->places, TRENCH_PLACES, i, call->route, TRENCH_ROUTE); i++)
+        for (size_t j = 0; trench_corner(book, length, call->places, TRENCH_PLACES, i, j, call->corner, TRENCH_CORNER); j++)
+            call->corners++;
     return given;
 }
 
@@ -51,21 +74,71 @@ static size_t used(void *(*body)(void *), struct call *call)
     return ROOM - deepest;
 }
 
+/* What a body needs beyond the thread itself. */
+static size_t need(void *(*body)(void *), struct call *call)
+{
+    static size_t alone = 0;
+    if (alone == 0)
+        alone = used(nothing, call);
+    size_t all = used(body, call);
+    return all > alone ? all - alone : 0;
+}
+
+static uint8_t *put(uint8_t *to, uint32_t value, int bytes)
+{
+    for (int i = 0; i < bytes; i++)
+        *to++ = (uint8_t)(value >> 8 * i);
+    return to;
+}
+
+/* The longest book that is read: 32 routes of 127 corners, each a stair. Gives its length. */
+static size_t longest_book(uint8_t *book)
+{
+    uint8_t *to = put(put(put(book, 0x50, 1), 7, 4), TRENCH_MOST_RUNS, 2);
+    to = put(put(put(to, 0, 4), 0, 4), 0, 4);
+    for (uint32_t i = 0; i < TRENCH_MOST_RUNS; i++) {
+        to = put(put(put(put(to, 0x4E, 1), i + 1, 2), 0, 2), TRENCH_MOST_CORNERS, 2);
+        for (uint32_t j = 0; j < TRENCH_MOST_CORNERS; j++)
+            to = put(put(put(to, 0x43, 1), (j + 1) / 2, 4), j / 2, 4);
+    }
+    to = put(put(to, 0x5A, 1), TRENCH_MOST_RUNS * TRENCH_MOST_CORNERS, 2);
+    return (size_t)(to - book);
+}
+
+static size_t most(size_t a, size_t b)
+{
+    return a < b ? b : a;
+}
+
+/* The need of reading the book of a call, which has to be accepted with so many corners, or refused. */
+static size_t reading(struct call *call, size_t length, bool accepted, size_t corners)
+{
+    call->book_length = length;
+    size_t bytes = need(read_back, call);
+    if ((call->answer >= 0) != accepted || call->corners < corners)
+        exit(2);
+    return bytes;
+}
+
 int main(int argc, char **argv)
 {
-    static uint8_t out[TRENCH_PLAN_ROOM];
     static struct call call;
-    size_t most = 0, thread_alone = used(nothing, &call);
-    call.out = out;
-    for (int i = 1; i < argc; i++) {
+    size_t to_plan = 0, to_read = 0;
+    bool read_only = argc > 1 && strcmp(argv[1], "--read") == 0;
+    for (int i = read_only ? 2 : 1; i < argc; i++) {
         FILE *file = fopen(argv[i], "rb");
         if (!file)
             return 2;
         call.length = fread(call.job, 1, sizeof call.job, file);
         fclose(file);
-        size_t need = used(planned, &call) - thread_alone;
-        most = need > most ? need : most;
+        to_plan = most(to_plan, need(planned, &call));
+        if (call.answer > 0)
+            to_read = most(to_read, reading(&call, (size_t)call.answer, true, 0));
+        memcpy(call.book, call.job, call.length);
+        to_read = most(to_read, reading(&call, call.length, false, 0));
     }
-    printf("%zu\n", most);
-    return most <= TRENCH_STACK ? 0 : 1;
+    to_read = most(to_read, reading(&call, longest_book(call.book), true, TRENCH_MOST_RUNS * TRENCH_MOST_CORNERS));
+    size_t bytes = read_only ? to_read : most(to_plan, to_read);
+    printf("%zu\n", bytes);
+    return bytes <= TRENCH_STACK ? 0 : 1;
 }

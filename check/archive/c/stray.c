@@ -1,4 +1,5 @@
-/* Functions with the interface of trench_plan that do what it must not: the tests see that each is noticed. All answer -4. */
+/* Functions with the interfaces of trench_plan and trench_corner that do what those must not: the tests see that each is noticed.
+ * The planners answer -4. */
 #include <stddef.h>
 #include <stdint.h>
 
@@ -38,4 +39,27 @@ int32_t stray_read_behind(const uint8_t *job, size_t job_len, uint8_t *out, size
     (void)out, (void)out_len;
     (void)*(const volatile uint8_t *)(job + job_len);
     return -4;
+}
+
+/* Does the deed of number i to what is before or behind its parts, or to a part that it may only read. Answers 0. */
+size_t stray_corner(const uint8_t *book, size_t book_len, const uint32_t *places, size_t places_len, size_t i, size_t j,
+                    int32_t *corner, size_t corner_len);
+
+size_t stray_corner(const uint8_t *book, size_t book_len, const uint32_t *places, size_t places_len, size_t i, size_t j,
+                    int32_t *corner, size_t corner_len)
+{
+    (void)j;
+    switch (i) {
+    case 0: *(volatile int32_t *)(corner - 1) ^= 1; break;
+    case 1: *(volatile int32_t *)(corner + corner_len) ^= 1; break;
+    case 2: *(volatile uint8_t *)(uintptr_t)book ^= 1; break;
+    case 3: *(volatile uint32_t *)(uintptr_t)places ^= 1; break;
+    case 4: (void)*(const volatile uint8_t *)(book - 1); break;
+    case 5: (void)*(const volatile uint8_t *)(book + book_len); break;
+    case 6: (void)*(const volatile uint32_t *)(places - 1); break;
+    case 7: (void)*(const volatile uint32_t *)(places + places_len); break;
+    case 8: *(volatile uint8_t *)(uintptr_t)(book - 1) ^= 1; break;
+    default: break;
+    }
+    return 0;
 }

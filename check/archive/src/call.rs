@@ -1,11 +1,12 @@
-//! The only unsafe code: the declarations of the C functions, calls of them, and memory between inaccessible pages.
-//! Nothing checks the declarations against the archive; `include/trench.h` says the same to C.
+//! The unsafe code, but for the loops of the benchmark: the declarations of the C functions, calls of them, and memory between
+//! inaccessible pages. Nothing checks the declarations against the archive; `include/trench.h` says the same to C.
 
 #![allow(unsafe_code)]
 
 use std::ffi::c_void;
 
 use trench_check::compare::{Called, Caller};
+use trench_check::read_back::{Answered, Asker, Question};
 
 type Plan = unsafe extern "C" fn(*const u8, usize, *mut u8, usize) -> i32;
 
@@ -22,6 +23,39 @@ unsafe extern "C" {
     fn stray_write_job(job: *const u8, job_len: usize, out: *mut u8, out_len: usize) -> i32;
     fn stray_read_before(job: *const u8, job_len: usize, out: *mut u8, out_len: usize) -> i32;
     fn stray_read_behind(job: *const u8, job_len: usize, out: *mut u8, out_len: usize) -> i32;
+    fn trench_read(book: *const u8, book_len: usize) -> i32;
+    fn trench_read_place(book: *const u8, book_len: usize) -> usize;
+    fn trench_figures(book: *const u8, book_len: usize, figures: *mut u32, figures_len: usize) -> usize;
+    fn trench_places(book: *const u8, book_len: usize, places: *mut u32, places_len: usize) -> usize;
+    fn trench_route(
+        book: *const u8,
+        book_len: usize,
+        places: *const u32,
+        places_len: usize,
+        i: usize,
+        route: *mut u32,
+        route_len: usize,
+    ) -> usize;
+    fn trench_corner(
+        book: *const u8,
+        book_len: usize,
+        places: *const u32,
+        places_len: usize,
+        i: usize,
+        j: usize,
+        corner: *mut i32,
+        corner_len: usize,
+    ) -> usize;
+    fn stray_corner(
+        book: *const u8,
+        book_len: usize,
+        places: *const u32,
+        places_len: usize,
+        i: usize,
+        j: usize,
+        corner: *mut i32,
+        corner_len: usize,
+    ) -> usize;
     fn mmap(at: *mut c_void, length: usize, protection: i32, flags: i32, file: i32, offset: i64) -> *mut c_void;
     fn mprotect(at: *mut c_void, length: usize, protection: i32) -> i32;
     fn munmap(at: *mut c_void, length: usize) -> i32;
@@ -129,6 +163,10 @@ const READ_AND_WRITE: i32 = 3;
 const PRIVATE_AND_ANONYMOUS: i32 = 0x22;
 /// What stands in the part of a room that is not lent.
 const CANARY: u8 = 0xA5;
+/// The most pages of a room.
+const MOST_PAGES: usize = 11;
+/// A room full of it, which is quickly compared.
+static CANARIES: [u8; MOST_PAGES * PAGE] = [CANARY; MOST_PAGES * PAGE];
 
 /// Memory of some pages between two that nobody may touch: a read or a write beyond it ends the process.
 struct Room {
@@ -165,11 +203,26 @@ impl Room {
         start
     }
 
+    /// The same for words.
+    fn lend_words(&mut self, words: &[u32], against: Against) -> usize {
+        let bytes: Vec<u8> = words.iter().flat_map(|word| word.to_ne_bytes()).collect();
+        self.lend(&bytes, against)
+    }
+
+    /// So many words of the lent part.
+    fn words(&mut self, start: usize, count: usize) -> Vec<u32> {
+        let words = self.bytes()[start..start + 4 * count].chunks_exact(4);
+        words.map(|word| u32::from_ne_bytes(word.try_into().expect("4 bytes"))).collect()
+    }
+
     /// The number of canaries around the lent part that were changed.
     fn changed_around(&mut self, start: usize, length: usize) -> usize {
         let room = self.bytes();
-        let around = room[..start].iter().chain(&room[start + length..]);
-        around.filter(|&&byte| byte != CANARY).count()
+        let changed = |part: &[u8]| match part == &CANARIES[..part.len()] {
+            true => 0,
+            false => part.iter().filter(|&&byte| byte != CANARY).count(),
+        };
+        changed(&room[..start]) + changed(&room[start + length..])
     }
 }
 
@@ -189,6 +242,12 @@ pub enum Against {
     Back,
 }
 
+impl Against {
+    fn other(self) -> Against {
+        if self == Against::Back { Against::Front } else { Against::Back }
+    }
+}
+
 /// Calls a function with job and plan buffer each against an inaccessible page, by turns the one behind and the one before.
 /// The rest of their pages holds canaries.
 pub struct Guarded {
@@ -202,7 +261,7 @@ impl Guarded {
     /// A caller of this function; job books of at most 4,096 bytes, plan buffers of at most 45,056. The first call is made
     /// against these pages.
     pub fn new(function: Function, first: Against) -> Guarded {
-        Guarded { function, job: Room::new(1), out: Room::new(11), next: first }
+        Guarded { function, job: Room::new(1), out: Room::new(MOST_PAGES), next: first }
     }
 }
 
@@ -210,7 +269,7 @@ impl Caller for Guarded {
     fn call(&mut self, job: &[u8], out: &mut [u8]) -> Called {
         let job_at = self.job.lend(job, self.next);
         let out_at = self.out.lend(out, self.next);
-        self.next = if self.next == Against::Back { Against::Front } else { Against::Back };
+        self.next = self.next.other();
         // SAFETY: both parts lie in rooms that live and do not overlap. A function that strays beyond its parts hits
         // canaries, or a page that it may not touch; then the process ends.
         let answer = unsafe {
@@ -226,5 +285,99 @@ impl Caller for Guarded {
         }
         out.copy_from_slice(&self.out.bytes()[out_at..out_at + out.len()]);
         Called { answer, strayed }
+    }
+}
+
+/// The functions that read plan books back.
+#[derive(Clone, Copy, Debug, PartialEq, Eq)]
+pub enum Reader {
+    /// Those of the archive.
+    Archive,
+    /// Those of the archive, but for `trench_corner`: in its place `stray_corner`, which does what it must not.
+    Stray,
+}
+
+/// Calls the reader with a book, places and words each against an inaccessible page, by turns the one behind and the one before:
+/// the book from lending to lending, places and words from call to call. The rest of their pages holds canaries.
+pub struct GuardedReader {
+    reader: Reader,
+    book: Room,
+    places: Room,
+    words: Room,
+    lent: Vec<u8>,
+    book_at: usize,
+    next_book: Against,
+    next: Against,
+}
+
+impl GuardedReader {
+    /// A caller of these functions; plan books of at most 45,056 bytes, at most 1,024 places and words. Each kind of memory is
+    /// first lent against these pages.
+    pub fn new(reader: Reader, first: Against) -> GuardedReader {
+        let (book, places, words) = (Room::new(MOST_PAGES), Room::new(1), Room::new(1));
+        GuardedReader { reader, book, places, words, lent: Vec::new(), book_at: 0, next_book: first, next: first }
+    }
+
+    /// Calls the function that answers a question, with memory that is lent already.
+    fn call(&mut self, question: Question, places_at: usize, words_at: usize, count: usize) -> i64 {
+        let (length, strays) = (self.lent.len(), self.reader == Reader::Stray);
+        // SAFETY: the three parts lie in rooms that live and do not overlap; words and places are aligned, since a page is and
+        // they fill whole words at an end of one. A function that strays beyond its parts hits canaries, or a page that it may
+        // not touch; then the process ends.
+        unsafe {
+            let book = self.book.base.cast_const().add(self.book_at);
+            let places = self.places.base.cast_const().add(places_at).cast::<u32>();
+            let words = self.words.base.add(words_at).cast::<u32>();
+            match question {
+                Question::Read => trench_read(book, length).into(),
+                Question::ReadPlace => trench_read_place(book, length) as i64,
+                Question::Figures => trench_figures(book, length, words, count) as i64,
+                Question::Places => trench_places(book, length, words, count) as i64,
+                Question::Route(list, i) => trench_route(book, length, places, list.len(), i, words, count) as i64,
+                Question::Corner(list, i, j) => {
+                    let corner = if strays { stray_corner } else { trench_corner };
+                    corner(book, length, places, list.len(), i, j, words.cast(), count) as i64
+                }
+            }
+        }
+    }
+}
+
+impl Asker for GuardedReader {
+    fn lend(&mut self, book: &[u8]) {
+        self.lent = book.to_vec();
+        self.book_at = self.book.lend(book, self.next_book);
+        self.next_book = self.next_book.other();
+    }
+
+    fn ask(&mut self, question: Question, words: &mut [u32]) -> Answered {
+        let list = match question {
+            Question::Route(places, _) | Question::Corner(places, ..) => places,
+            _ => &[],
+        };
+        let places_at = self.places.lend_words(list, self.next);
+        let words_at = self.words.lend_words(words, self.next);
+        self.next = self.next.other();
+        let answer = self.call(question, places_at, words_at, words.len());
+        let mut strayed = None;
+        if self.places.words(places_at, list.len()) != list {
+            strayed = Some("the places were changed".to_string());
+        }
+        let around = self.places.changed_around(places_at, 4 * list.len())
+            + self.words.changed_around(words_at, 4 * words.len());
+        if around > 0 {
+            strayed = Some(format!("bytes changed outside the lent ones: {around}"));
+        }
+        words.copy_from_slice(&self.words.words(words_at, words.len()));
+        Answered { answer, strayed }
+    }
+
+    fn give_back(&mut self) -> Option<String> {
+        let (at, length) = (self.book_at, self.lent.len());
+        if self.book.bytes()[at..at + length] != self.lent[..] {
+            return Some("the book was changed".to_string());
+        }
+        let around = self.book.changed_around(at, length);
+        (around > 0).then(|| format!("bytes changed around the book: {around}"))
     }
 }

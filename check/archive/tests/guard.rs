@@ -1,9 +1,13 @@
-//! The caller between inaccessible pages notices every access outside the lent memory, and the archive makes none.
+//! The caller between inaccessible pages notices every access outside the lent memory, and the archive makes none. And what the
+//! archive is timed against is right too.
 
-use std::os::unix::process::ExitStatusExt;
-use std::process::Command;
+mod common;
 
+use std::path::Path;
+
+use common::{SANITIZERS, assert_ends_the_process, assert_faultless_in_threads, compile, run, text};
 use trench_archive::call::{Against, Function, Guarded};
+use trench_check::book_cases::book_case;
 use trench_check::compare::{Caller, try_cases};
 
 fn strayed(function: Function, against: Against) -> Option<String> {
@@ -53,22 +57,15 @@ mod ending {
 
 #[test]
 fn accesses_of_the_pages_end_the_process() {
-    const SEGMENT_VIOLATION: i32 = 11;
     for name in ["write_before", "write_behind", "read_before", "read_behind"] {
-        let mut command = Command::new(std::env::current_exe().expect("this program"));
-        let output = command.args(["--ignored", "--exact", &format!("ending::{name}")]).output().expect("it runs");
-        assert_eq!(output.status.signal(), Some(SEGMENT_VIOLATION), "{name}");
+        assert_ends_the_process(&format!("ending::{name}"));
     }
 }
 
 #[test]
 fn several_threads_at_once() {
-    std::thread::scope(|scope| {
-        let share = |from| move || try_cases(&mut Guarded::new(Function::Archive, Against::Back), 12, from, 400, 8);
-        let threads: Vec<_> = (0..8).map(|from| scope.spawn(share(from))).collect();
-        for thread in threads {
-            assert_eq!(thread.join().expect("the comparison itself does not fail").faults, Vec::<String>::new());
-        }
+    assert_faultless_in_threads(|from| {
+        try_cases(&mut Guarded::new(Function::Archive, Against::Back), 12, from, 400, 8)
     });
 }
 
@@ -78,4 +75,15 @@ fn the_plain_c_planner_is_right_too() {
     assert_eq!(report.faults, Vec::<String>::new());
     let report = try_cases(&mut Guarded::new(Function::TableClearing, Against::Front), 14, 0, 500, 1);
     assert_eq!(report.faults, Vec::<String>::new());
+}
+
+/// Its answers are those of the archive, which are compared with the independent reading, and it reads nothing but the book.
+#[test]
+fn the_plain_c_reader_is_right_too() {
+    let sources = ["c/same.c", "../bench/read.c"].map(|name| Path::new(env!("CARGO_MANIFEST_DIR")).join(name));
+    let same = compile(&[&["cc", "-std=c99", "-g", "-O2"], &SANITIZERS[..]].concat(), &sources, "same");
+    let books: Vec<Vec<u8>> = (0..800).map(|n| book_case(27, n).bytes).collect();
+    let input = books.iter().flat_map(|book| [&(book.len() as u32).to_le_bytes(), &book[..]].concat());
+    let output = run(&same, &[], &input.collect::<Vec<u8>>());
+    assert_eq!((output.status.code(), text(&output.stdout)), (Some(0), format!("{}\n", books.len())));
 }

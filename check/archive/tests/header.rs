@@ -1,12 +1,14 @@
-//! `include/trench.h` compiles as C99 and as C++ without a warning, and its programs link the archive.
+//! `include/trench.h` compiles as C99 and as C++ without a warning, its programs link the archive, and it declares the archive's
+//! functions, all of them.
 
 mod common;
 
+use std::collections::BTreeSet;
 use std::path::{Path, PathBuf};
 
-use common::{compile, has, run};
+use common::{compile, has, root, run, text};
 
-/// Plans a job of one run, a blank one and a refused one, with every name of the header in use.
+/// Plans a job of one run, a blank one and a refused one, and reads their plans, with every name of the header in use.
 const PROGRAM: &str = r#"
 #include "trench.h"
 #include "trench.h"
@@ -17,6 +19,78 @@ static const uint8_t job[] = { 0x48, 7, 0, 0, 0,
     0x5A, 1, 0 };
 static const uint8_t blank[] = { 0x48, 7, 0, 0, 0, 0x5A, 0, 0 };
 static uint8_t out[TRENCH_PLAN_ROOM];
+
+/* The types that callers rely on. */
+static int32_t (*const plan)(const uint8_t *, size_t, uint8_t *, size_t) = trench_plan;
+static int32_t (*const read_plan)(const uint8_t *, size_t) = trench_read;
+static size_t (*const read_place)(const uint8_t *, size_t) = trench_read_place;
+static size_t (*const figures_of)(const uint8_t *, size_t, uint32_t *, size_t) = trench_figures;
+static size_t (*const places_of)(const uint8_t *, size_t, uint32_t *, size_t) = trench_places;
+static size_t (*const route_of)(const uint8_t *, size_t, const uint32_t *, size_t, size_t, uint32_t *, size_t) = trench_route;
+static size_t (*const corner_of)(const uint8_t *, size_t, const uint32_t *, size_t, size_t, size_t, int32_t *, size_t) = trench_corner;
+
+/* Reads the plan of a run from 0,0 to -3,4 back, whole and damaged; 0, or where it went wrong. */
+static int read_back(void)
+{
+    static const uint8_t turned[] = { 0x48, 0xFF, 0xFF, 0xFF, 0xFF,
+        0x52, 9, 0, 0, 0, 0, 0, 0, 0, 0, 0, 0xFD, 0xFF, 0xFF, 0xFF, 4, 0, 0, 0,
+        0x5A, 1, 0 };
+    uint32_t figures[TRENCH_FIGURES + 1], places[TRENCH_PLACES + 1], route[TRENCH_ROUTE + 1];
+    int32_t corner[TRENCH_CORNER + 1];
+    int32_t length = plan(turned, sizeof turned, out, sizeof out);
+    if (length != 22 + 7 + 3 * 9)
+        return 10;
+    size_t book = (size_t)length;
+    memset(figures, 1, sizeof figures), memset(places, 1, sizeof places);
+    memset(route, 1, sizeof route), memset(corner, 1, sizeof corner);
+    if (read_plan(out, book) != 1 || read_place(out, book) != 0)
+        return 11;
+    if (figures_of(out, book, figures, TRENCH_FIGURES - 1) != 0 || figures[0] != 0x01010101)
+        return 12;
+    if (figures_of(out, book, figures, TRENCH_FIGURES) != TRENCH_FIGURES)
+        return 13;
+    if (figures[0] != 0xFFFFFFFF || figures[1] != 1 || figures[2] != 7 || figures[3] != 0 || figures[4] != 3 || figures[5] != 9)
+        return 14;
+    if (places_of(out, book, places, TRENCH_PLACES - 1) != 0 || places[0] != 0x01010101)
+        return 15;
+    if (places_of(out, book, places, TRENCH_PLACES) != TRENCH_PLACES || places[0] != 19 || places[1] != 53 || places[2] != 0)
+        return 16;
+    if (route_of(out, book, places, TRENCH_PLACES, 0, route, TRENCH_ROUTE - 1) != 0 || route[0] != 0x01010101)
+        return 17;
+    if (route_of(out, book, places, TRENCH_PLACES, 1, route, TRENCH_ROUTE) != 0 || route[0] != 0x01010101)
+        return 18;
+    if (route_of(out, book, places, TRENCH_PLACES, 0, route, TRENCH_ROUTE) != TRENCH_ROUTE)
+        return 19;
+    if (route[0] != 9 || route[1] != 0 || route[2] != 3)
+        return 20;
+    if (corner_of(out, book, places, TRENCH_PLACES, 0, 2, corner, TRENCH_CORNER - 1) != 0 || corner[0] != 0x01010101)
+        return 21;
+    if (corner_of(out, book, places, TRENCH_PLACES, 0, 3, corner, TRENCH_CORNER) != 0 || corner[0] != 0x01010101)
+        return 22;
+    if (corner_of(out, book, places, TRENCH_PLACES, 0, 2, corner, TRENCH_CORNER) != TRENCH_CORNER)
+        return 23;
+    if (corner[0] != -3 || corner[1] != 4)
+        return 24;
+    if (figures[TRENCH_FIGURES] != 0x01010101 || places[TRENCH_PLACES] != 0x01010101 || route[TRENCH_ROUTE] != 0x01010101)
+        return 25;
+    if (corner[TRENCH_CORNER] != 0x01010101 || TRENCH_FIGURES != 6 || TRENCH_PLACES != 33)
+        return 26;
+    if (read_plan(out, book - 1) != -TRENCH_NOT_WHOLE || read_place(out, book - 1) != 53)
+        return 27;
+    out[52] = 1; /* the last corner's y is 16,777,220 */
+    if (read_plan(out, book) != -TRENCH_COORDINATE || read_place(out, book) != 44)
+        return 28;
+    memcpy(out + 44, out + 35, 9);
+    if (read_plan(out, book) != -TRENCH_NO_TURN || read_place(out, book) != 44)
+        return 29;
+    plan(turned, sizeof turned, out, sizeof out);
+    out[54] = 4;
+    if (read_plan(out, book) != -TRENCH_MISCOUNTED || read_place(out, book) != 53)
+        return 30;
+    if (figures_of(out, book, figures, TRENCH_FIGURES) != 0 || places_of(out, book, places, TRENCH_PLACES) != TRENCH_PLACES)
+        return 31;
+    return places[0] == 0 && route_of(out, book, places, TRENCH_PLACES, 0, route, TRENCH_ROUTE) == 0 ? 0 : 32;
+}
 
 int main(void)
 {
@@ -36,7 +110,11 @@ int main(void)
             return 5;
     if (trench_plan(blank, sizeof blank, out, sizeof out) != 22 || out[5] != 0 || out[19] != 0x5A)
         return 6;
-    return TRENCH_NO_STAR == 11 && TRENCH_MOST_RUNS == 32 && TRENCH_STACK >= 65536 ? 0 : 7;
+    if (TRENCH_NO_STAR != 11 || TRENCH_NOT_WHOLE != 12 || TRENCH_NO_TURN != 13 || TRENCH_MISCOUNTED != 14)
+        return 7;
+    if (TRENCH_MOST_RUNS != 32 || TRENCH_MOST_CORNERS != 127 || TRENCH_STACK < 65536)
+        return 8;
+    return read_back();
 }
 "#;
 
@@ -61,4 +139,20 @@ fn as_c99_and_as_cpp() {
         let program = compile(&compiler[..], &[source(ending)], &format!("header-{}", compiler[0]));
         assert_eq!(run(&program, &[], &[]).status.code(), Some(0), "{compiler:?}");
     }
+}
+
+/// The names at the front of these lines, behind a word, that belong to the product.
+fn names<'a>(lines: impl Iterator<Item = &'a str>) -> BTreeSet<String> {
+    let names = lines.filter_map(|line| line.split([' ', '(']).find(|word| word.starts_with("trench_")));
+    names.map(str::to_string).collect()
+}
+
+#[test]
+fn every_function_of_the_archive_is_declared() {
+    let header = std::fs::read_to_string(root().join("include/trench.h")).expect("the header");
+    let declared = names(header.lines().filter(|line| line.starts_with("int32_t ") || line.starts_with("size_t ")));
+    let listed = run(Path::new("nm"), &["--extern-only", "--defined-only", env!("TRENCH_ARCHIVE_COPY")], &[]);
+    let listed = text(&listed.stdout);
+    assert_eq!(names(listed.lines().filter(|line| line.contains(" T "))), declared);
+    assert_eq!(declared.len(), 7);
 }

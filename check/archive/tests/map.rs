@@ -1,23 +1,33 @@
-//! The map program, compiled with sanitizers: draws every corner of every plan, and tells every refusal with its place.
+//! The map program, compiled with sanitizers: draws every corner of every plan, planned or stored, and tells every refusal with
+//! its place.
 
 mod common;
 
 use std::collections::{BTreeMap, BTreeSet};
 use std::fs::File;
-use std::path::Path;
+use std::path::{Path, PathBuf};
 use std::process::{Command, Stdio};
+use std::sync::LazyLock;
 
 use common::svg::{Element, elements};
 use common::{compile, has, map_program, planned, root, run, samples, text};
 use trench_check::book::job_bytes;
+use trench_check::book_cases::{Made, book_case, count, made_up, route};
+use trench_check::book_damage;
 use trench_check::damage::{self, damaged};
 use trench_check::generate::{self, KINDS};
 use trench_check::grid::Grid;
-use trench_check::job::{Area, Job, Point};
+use trench_check::job::{FAR, Job, MOST_RUNS, Point, Run};
 use trench_check::line;
-use trench_check::plan_book::PlanBook;
+use trench_check::plan_book::{MOST_CORNERS, PlanBook, RouteRecord};
 use trench_check::random::Random;
 use trench_check::refusal::{self, verdict, words};
+
+/// The program, compiled once for all tests.
+fn map() -> &'static Path {
+    static MAP: LazyLock<PathBuf> = LazyLock::new(|| map_program("map"));
+    &MAP
+}
 
 /// How decimetres became pixels.
 struct View {
@@ -53,6 +63,44 @@ impl View {
     }
 }
 
+/// A row or a column: whether it is a row, and its y or x.
+type Line = (bool, i32);
+
+/// The straight pieces of some routes by their lines, each from its lesser coordinate to its greater one; pieces of one line
+/// that touch or overlap are one.
+fn pieces(routes: &[RouteRecord]) -> BTreeMap<Line, Vec<(i32, i32)>> {
+    let mut by_line: BTreeMap<Line, Vec<(i32, i32)>> = BTreeMap::new();
+    for pair in routes.iter().flat_map(|route| route.corners.windows(2)) {
+        let (line, from, to) = stretch(pair[0], pair[1]);
+        by_line.entry(line).or_default().push((from, to));
+    }
+    for on_line in by_line.values_mut() {
+        on_line.sort_unstable();
+        let mut joined: Vec<(i32, i32)> = Vec::new();
+        for &(from, to) in on_line.iter() {
+            match joined.last_mut().filter(|last| from <= last.1) {
+                Some(last) => last.1 = last.1.max(to),
+                None => joined.push((from, to)),
+            }
+        }
+        *on_line = joined;
+    }
+    by_line
+}
+
+/// The line of two points that share one, and the points' places on it.
+fn stretch(p: Point, q: Point) -> (Line, i32, i32) {
+    let row = p.y == q.y;
+    assert!(row || p.x == q.x, "{p:?} and {q:?} are on one line");
+    if row { ((true, p.y), p.x.min(q.x), p.x.max(q.x)) } else { ((false, p.x), p.y.min(q.y), p.y.max(q.y)) }
+}
+
+/// The length of the union of some routes.
+fn union(routes: &[RouteRecord]) -> i64 {
+    pieces(routes).values().flatten().map(|&(from, to)| i64::from(to) - i64::from(from)).sum()
+}
+
+/// Holds a drawing to the plan, and to the points and numbers of these runs.
 fn assert_drawing(job: &Job, plan: &PlanBook, document: &str) {
     let all = elements(document);
     let of = |name: &str, class: &str| -> Vec<&Element> {
@@ -66,14 +114,20 @@ fn assert_drawing(job: &Job, plan: &PlanBook, document: &str) {
         .collect();
     let corners: BTreeSet<Point> = plan.routes.iter().flat_map(|route| route.corners.iter().copied()).collect();
     assert_eq!(pits.keys().copied().collect::<BTreeSet<_>>(), corners, "the pits are the corners");
-    assert_eq!((of("circle", "pit").len(), corners.len()), (usize::from(plan.pits), usize::from(plan.pits)));
+    assert_eq!(of("circle", "pit").len(), corners.len(), "each pit is drawn once");
     if job.runs.is_empty() {
-        assert_blank(job, &all);
+        assert_blank(plan, &all);
         return;
     }
     let view = View::of(&pits);
-    pits.iter().for_each(|(&p, &(x, y))| view.assert_drawn(p, x, y, "pit"));
-    assert_trenches(job, plan, &view, &of("line", "trench"));
+    let sheet = all.last().expect("the root");
+    let on_sheet =
+        |x: f64, y: f64| (0.0..sheet.number("width")).contains(&x) && (0.0..sheet.number("height")).contains(&y);
+    for (&p, &(x, y)) in &pits {
+        view.assert_drawn(p, x, y, "pit");
+        assert!(on_sheet(x, y), "{p:?} is on the sheet");
+    }
+    assert_trenches(plan, &view, &of("line", "trench"));
     assert_centre(plan, &view, &of("polyline", "centre"));
     let ends: Vec<&Element> =
         all.iter().filter(|element| element.has_class("end") || element.has_class("label")).collect();
@@ -89,20 +143,22 @@ fn assert_drawing(job: &Job, plan: &PlanBook, document: &str) {
     assert_eq!(of("path", "scale").len(), 1, "a scale");
 }
 
-/// The sheet of a job without runs: its number and its figures, and nothing of a map but the key.
-fn assert_blank(job: &Job, all: &[Element]) {
+/// The sheet of a plan without routes: its number and its figures, and nothing of a map but the key.
+fn assert_blank(plan: &PlanBook, all: &[Element]) {
     let classes = ["survey", "trench", "centre", "pit", "end", "label", "scale"];
     let drawn =
         all.iter().filter(|element| !element.has_class("key") && classes.iter().any(|class| element.has_class(class)));
     let drawn: Vec<&str> = drawn.map(|element| element.name.as_str()).collect();
     assert_eq!(drawn, ["line"], "the key's line of a centre");
-    for words in [format!("job {}: no runs", job.number), "trench 0 dm, saved 0 dm, pits 0".to_string()] {
+    let figures = format!("trench {} dm, saved {} dm, pits {}", plan.trench, plan.saved, plan.pits);
+    for words in [format!("job {}: no runs", plan.job), figures] {
         assert!(all.iter().any(|element| element.name == "text" && element.text == words), "`{words}` is there");
     }
 }
 
-/// Every trench says from where to where it goes and whose cables it carries; together they are the plan's union.
-fn assert_trenches(job: &Job, plan: &PlanBook, view: &View, trenches: &[&Element]) {
+/// Every trench says from where to where it goes and whose cables it carries, all of them; together they are the plan's union.
+fn assert_trenches(plan: &PlanBook, view: &View, trenches: &[&Element]) {
+    let by_route: Vec<_> = plan.routes.iter().map(|route| pieces(std::slice::from_ref(route))).collect();
     let (mut dug, mut laid) = (0, 0);
     for trench in trenches {
         let (ends, runs) = trench.text.split_once(": run ").expect("a trench says whose it is");
@@ -113,28 +169,30 @@ fn assert_trenches(job: &Job, plan: &PlanBook, view: &View, trenches: &[&Element
         let runs: Vec<u16> = runs.split(' ').map(|run| run.parse().expect("a run number")).collect();
         let class = ["one", "two", "more"][runs.len().min(3) - 1];
         assert!(trench.has_class(class), "{runs:?} make it {class}");
-        for run in &runs {
-            let route = plan.routes.iter().find(|route| route.run == *run).expect("a run of the plan");
-            let on = route
-                .corners
-                .windows(2)
-                .any(|pair| Area::of(pair[0], pair[1]).holds(p) && Area::of(pair[0], pair[1]).holds(q));
-            assert!(on, "run {run} passes from {p:?} to {q:?}");
-        }
+        let (line, from, to) = stretch(p, q);
+        let passes = |pieces: &BTreeMap<Line, Vec<(i32, i32)>>| {
+            pieces.get(&line).is_some_and(|on_line| on_line.iter().any(|piece| piece.0 <= from && to <= piece.1))
+        };
+        let due = plan.routes.iter().zip(&by_route).filter(|(_, pieces)| passes(pieces)).map(|(route, _)| route.run);
+        assert_eq!(runs, due.collect::<Vec<_>>(), "who passes from {p:?} to {q:?}");
         dug += p.distance(q);
         laid += p.distance(q) * runs.len() as i64;
     }
-    assert_eq!((dug, laid), (i64::from(plan.trench), job.distance()), "all trenches and all cables are drawn");
+    let each = plan.routes.iter().map(|route| union(std::slice::from_ref(route))).sum();
+    assert_eq!((dug, laid), (union(&plan.routes), each), "all trenches and all cables are drawn");
 }
 
+/// The centre's route is drawn as a line; in a stored plan any number of routes may have the centre's number.
 fn assert_centre(plan: &PlanBook, view: &View, drawn: &[&Element]) {
-    let [centre] = drawn else { panic!("one centre") };
-    let route = plan.routes.iter().find(|route| route.run == plan.centre).expect("the centre's route");
-    let points: Vec<&str> = centre.attribute("points").split(' ').collect();
-    assert_eq!(points.len(), route.corners.len());
-    for (&corner, point) in route.corners.iter().zip(points) {
-        let (x, y) = point.split_once(',').expect("a point");
-        view.assert_drawn(corner, x.parse().expect("a number"), y.parse().expect("a number"), "centre");
+    let routes: Vec<&RouteRecord> = plan.routes.iter().filter(|route| route.run == plan.centre).collect();
+    assert_eq!(drawn.len(), routes.len(), "the centre");
+    for (centre, route) in drawn.iter().zip(routes) {
+        let points: Vec<&str> = centre.attribute("points").split(' ').collect();
+        assert_eq!(points.len(), route.corners.len());
+        for (&corner, point) in route.corners.iter().zip(points) {
+            let (x, y) = point.split_once(',').expect("a point");
+            view.assert_drawn(corner, x.parse().expect("a number"), y.parse().expect("a number"), "centre");
+        }
     }
 }
 
@@ -164,24 +222,52 @@ fn assert_ends(job: &Job, plan: &PlanBook, view: &View, drawn: &[&Element]) {
     assert_eq!(points, job.runs.iter().flat_map(|run| [run.first, run.second]).collect(), "all points are drawn");
 }
 
+/// What the program draws for a job or a plan book on standard input.
+fn drawn(map: &Path, words: &[&str], bytes: &[u8]) -> String {
+    let output = run(map, words, bytes);
+    assert_eq!((output.status.code(), text(&output.stderr)), (Some(0), String::new()), "{words:?}");
+    text(&output.stdout)
+}
+
+/// A job is drawn, and its plan, stored and drawn again, gives the same drawing.
 fn assert_drawn(map: &Path, bytes: &[u8]) {
     let job = verdict(bytes).expect("a star");
     let plan = planned(bytes).expect("a plan");
-    let output = run(map, &["-"], bytes);
-    assert_eq!((output.status.code(), text(&output.stderr)), (Some(0), String::new()), "{}", line::show(&job));
-    assert_drawing(&job, &plan, &text(&output.stdout));
+    let document = drawn(map, &["-"], bytes);
+    assert_drawing(&job, &plan, &document);
+    let [all, each]: [i64; 2] = [plan.trench.into(), plan.trench as i64 + plan.saved as i64];
+    assert_eq!((union(&plan.routes), job.distance()), (all, each), "the figures of {}", line::show(&job));
+    assert_eq!(document, drawn(map, &["--plan", "-"], &plan.bytes()), "the stored plan of {}", line::show(&job));
+}
+
+/// A plan book that is accepted is drawn, whoever wrote it.
+fn assert_stored(map: &Path, book: &PlanBook) {
+    let run = |route: &RouteRecord| {
+        let (first, second) = (route.corners[0], route.corners[route.corners.len() - 1]);
+        Run { number: route.run, first, second }
+    };
+    let job = Job { number: book.job, runs: book.routes.iter().map(run).collect() };
+    assert_drawing(&job, book, &drawn(map, &["--plan", "-"], &book.bytes()));
+}
+
+/// A plan book that is refused is told and not drawn.
+fn assert_told(map: &Path, bytes: &[u8], refused: refusal::Refusal, what: &str) {
+    let output = run(map, &["--plan", "-"], bytes);
+    let told = format!("map: -: {refused}: {}\n", words(refused.number));
+    assert_eq!((output.status.code(), text(&output.stderr)), (Some(1), told), "{what}");
+    assert!(output.stdout.is_empty(), "nothing is drawn");
 }
 
 #[test]
 fn samples_are_drawn_or_refused() {
-    let map = map_program("map-samples");
+    let map = map();
     for path in samples("job") {
         let bytes = std::fs::read(&path).expect("a sample");
         let name = path.to_str().expect("a name");
         match verdict(&bytes) {
-            Ok(_) => assert_drawn(&map, &bytes),
+            Ok(_) => assert_drawn(map, &bytes),
             Err(refused) => {
-                let output = run(&map, &[name], &[]);
+                let output = run(map, &[name], &[]);
                 let told = format!("map: {name}: {refused}: {}\n", words(refused.number));
                 assert_eq!((output.status.code(), text(&output.stderr)), (Some(1), told));
                 assert!(output.stdout.is_empty(), "nothing is drawn");
@@ -192,38 +278,158 @@ fn samples_are_drawn_or_refused() {
 
 #[test]
 fn stars_are_drawn() {
-    let map = map_program("map-stars");
+    let map = map();
     for n in 0..60 {
         let mut random = Random::nth(21, n);
         let kind = KINDS[n as usize % KINDS.len()];
         let job = if n % 15 == 14 { generate::full_star(&mut random) } else { generate::star(&mut random, kind) };
-        assert_drawn(&map, &job_bytes(&job));
+        assert_drawn(map, &job_bytes(&job));
     }
 }
 
 #[test]
 fn damaged_books_are_refused_with_their_place() {
-    let map = map_program("map-damaged");
+    let map = map();
     for n in 0..60 {
         let made = damaged(&mut Random::nth(22, n as u64), n % damage::WAYS);
-        let output = run(&map, &["-"], &made.bytes);
+        let output = run(map, &["-"], &made.bytes);
         let told = format!("map: -: {}: {}\n", made.refusal, refusal::words(made.refusal.number));
         assert_eq!((output.status.code(), text(&output.stderr)), (Some(1), told), "{}", made.what);
     }
 }
 
 #[test]
+fn stored_samples_are_drawn_or_refused() {
+    let map = map();
+    for path in samples("plan") {
+        let bytes = std::fs::read(&path).expect("a sample");
+        match PlanBook::read(&bytes) {
+            Ok(book) => assert_stored(map, &book),
+            Err(refused) => assert_told(map, &bytes, refused, &path.display().to_string()),
+        }
+    }
+}
+
+/// The stored pictures are what the stored plans draw, whichever least plans the archive finds.
+#[test]
+fn pictures_of_the_samples() {
+    let map = map();
+    for path in samples("svg") {
+        let picture = std::fs::read_to_string(&path).expect("a sample");
+        let plan = path.with_extension("plan");
+        assert_eq!(drawn(map, &["--plan", plan.to_str().expect("a name")], &[]), picture, "{}", path.display());
+    }
+}
+
+/// Books that no planner writes: routes that go to and fro off the survey lines, to the limits of the coordinates, with numbers
+/// that stand twice, of one corner and of 127.
+#[test]
+fn strange_plans_are_drawn() {
+    let map = map();
+    for n in 0..40 {
+        let mut random = Random::nth(23, n);
+        let routes = [0, 1, 2, 3, 5, 9, MOST_RUNS][n as usize % 7];
+        assert_stored(map, &made_up(&mut random, routes));
+    }
+}
+
+#[test]
+fn special_plans_are_drawn() {
+    let map = map();
+    let special = (0..).map(|n| book_case(0, n)).take_while(|case| case.made == Made::Whole);
+    let special: Vec<_> = special.map(|case| PlanBook::read(&case.bytes).expect("a plan")).collect();
+    assert!(special.len() > 3, "there are special books");
+    special.iter().for_each(|book| assert_stored(map, book));
+}
+
+/// The most columns and rows that a plan can have, 2,048 of each: every corner of 32 routes of 127 lies on a line of its own.
+#[test]
+fn a_plan_of_the_most_lines_is_drawn() {
+    let map = map();
+    let mut book = made_up(&mut Random::nth(24, 0), 0);
+    let place = |i: i32, k: i32| if i % 2 == 0 { -FAR + 900 * k + i } else { FAR - 900 * k - i };
+    for i in 0..MOST_RUNS as i32 {
+        let corner = |j: i32| Point::new(place(i, (j + 1) / 2), place(i + 2, j / 2));
+        book.routes.push(route(i as u16 / 3, 0, (0..MOST_CORNERS as i32).map(corner).collect()));
+    }
+    book.centre = 1;
+    count(&mut book);
+    let lines: BTreeSet<i32> = book.routes.iter().flat_map(|route| route.corners.iter().map(|p| p.x)).collect();
+    assert_eq!((lines.len(), book.bytes().len()), (2_048, 36_822));
+    assert_stored(map, &book);
+}
+
+/// Many routes along few lines: pieces that overlap, meet end to end, and go over the same stretch twice.
+#[test]
+fn crowded_plans_are_drawn() {
+    let map = map();
+    for n in 0..20 {
+        let mut random = Random::nth(25, n);
+        let mut book = made_up(&mut random, 0);
+        for i in 0..MOST_RUNS {
+            let mut here = Point::new(random.from(0, 3), random.from(0, 3));
+            let mut corners = vec![here];
+            for k in 0..random.below(MOST_CORNERS) {
+                let field = if k % 2 == i % 2 { &mut here.x } else { &mut here.y };
+                *field = (*field + random.from(1, 3)) % 4;
+                corners.push(here);
+            }
+            book.routes.push(route(i as u16 / 2, 0, corners));
+        }
+        count(&mut book);
+        assert_stored(map, &book);
+    }
+}
+
+#[test]
+fn damaged_plan_books_are_refused_with_their_place() {
+    let map = map();
+    for n in 0..3 * book_damage::WAYS {
+        let made = book_damage::damaged(&mut Random::nth(26, n as u64), n % book_damage::WAYS);
+        assert_told(map, &made.bytes, made.refusal, made.what);
+    }
+    let longest = (0..).map(|n| book_case(0, n).bytes).find(|bytes| bytes.len() == 36_822).expect("the longest book");
+    for more in [1, 5_000, 100_000] {
+        let bytes = [&longest[..], &vec![0x43; more]].concat();
+        assert_told(map, &bytes, refusal::Refusal { number: 12, place: 36_822 }, "bytes after the longest book");
+    }
+    let job = std::fs::read(root().join("samples/job-7.job")).expect("a sample");
+    assert_told(map, &job, refusal::Refusal { number: 12, place: 0 }, "a job book");
+}
+
+#[test]
+fn plan_books_in_files() {
+    let map = map();
+    let job = std::fs::read(root().join("samples/lease.job")).expect("a sample");
+    let plan = planned(&job).expect("a plan").bytes();
+    let path = Path::new(env!("CARGO_TARGET_TMPDIR")).join("lease.plan");
+    let name = path.to_str().expect("a name");
+    std::fs::write(&path, &plan).expect("a plan is stored");
+    assert_eq!(drawn(map, &["--plan", name], &[]), drawn(map, &["-"], &job));
+    std::fs::write(&path, &plan[..plan.len() - 1]).expect("a plan is stored");
+    let output = run(map, &["--plan", name], &[]);
+    let told = format!("map: {name}: refused 12 at {}: {}\n", plan.len() - 3, words(12));
+    assert_eq!((output.status.code(), text(&output.stderr)), (Some(1), told));
+}
+
+#[test]
 fn what_cannot_be_read_or_written() {
-    let map = map_program("map-files");
-    assert_eq!(run(&map, &[], &[]).status.code(), Some(2), "no argument");
-    let missing = run(&map, &["no/such/file"], &[]);
-    assert_eq!(
-        (missing.status.code(), text(&missing.stderr)),
-        (Some(2), "map: no/such/file: cannot be opened\n".to_string())
-    );
+    let map = map();
+    for words in [&[][..], &["a", "b"], &["--plan", "a", "b"]] {
+        let output = run(map, words, &[]);
+        assert_eq!(output.status.code(), Some(2), "{words:?}");
+        assert!(text(&output.stderr).starts_with("usage: "), "{words:?}");
+    }
+    for words in [&["no/such/file"][..], &["--plan", "no/such/file"]] {
+        let missing = run(map, words, &[]);
+        assert_eq!(
+            (missing.status.code(), text(&missing.stderr)),
+            (Some(2), "map: no/such/file: cannot be opened\n".to_string())
+        );
+    }
     let full = File::options().write(true).open("/dev/full").expect("a device that is full");
     let job = root().join("samples/job-7.job");
-    let status = Command::new(&map).arg(job).stdout(full).stderr(Stdio::null()).status().expect("it runs");
+    let status = Command::new(map).arg(job).stdout(full).stderr(Stdio::null()).status().expect("it runs");
     assert_eq!(status.code(), Some(2), "standard output is full");
 }
 

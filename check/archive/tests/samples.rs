@@ -5,12 +5,14 @@ mod common;
 use std::path::Path;
 
 use common::{planned, run, samples, text};
+use trench_archive::call::{Against, GuardedReader, Reader};
 use trench_check::book::job_bytes;
-use trench_check::job::Job;
+use trench_check::job::{Job, Point};
 use trench_check::judge::judge;
 use trench_check::listing;
-use trench_check::plan_book::PlanBook;
-use trench_check::refusal::{verdict, words};
+use trench_check::plan_book::{PlanBook, RouteRecord};
+use trench_check::read_back::{Asker, PLACES, Question, listed};
+use trench_check::refusal::{Refusal, verdict, words};
 use trench_check::text::{parse, why_no_star};
 
 fn desk() -> &'static Path {
@@ -51,6 +53,58 @@ fn stored_listings_are_right() {
                 assert_eq!(judge(&job, &book.bytes()), Vec::<String>::new(), "{}", path.display());
                 assert_eq!(planned(&job).map(|plan| figures(&plan)), Ok(figures(&book)), "{}", path.display());
             }
+        }
+    }
+}
+
+/// A plan book as a program finds it that calls the archive alone: reads it once, and then asks for all that it holds.
+fn read_by_the_archive(bytes: &[u8]) -> Result<PlanBook, Refusal> {
+    let mut asker = GuardedReader::new(Reader::Archive, Against::Back);
+    asker.lend(bytes);
+    let number = asker.ask(Question::Read, &mut []).answer;
+    if number < 0 {
+        let place = asker.ask(Question::ReadPlace, &mut []).answer as usize;
+        return Err(Refusal { number: -number as i32, place });
+    }
+    let mut figures = [0; 6];
+    let mut places = [0; PLACES];
+    assert_eq!(asker.ask(Question::Figures, &mut figures).answer, 6);
+    assert_eq!(asker.ask(Question::Places, &mut places).answer, PLACES as i64);
+    let [job, runs, trench, saved, pits, centre] = figures;
+    let (runs, pits, centre) = (runs as u16, pits as u16, centre as u16);
+    let mut book = PlanBook { job, runs, trench, saved, pits, centre, routes: Vec::new(), total: 0 };
+    let mut route = [0; 3];
+    while asker.ask(Question::Route(&places, book.routes.len()), &mut route).answer == 3 {
+        let [run, meets, count] = route.map(|field| field as u16);
+        let mut corners = Vec::new();
+        let mut corner = [0; 2];
+        while asker.ask(Question::Corner(&places, book.routes.len(), corners.len()), &mut corner).answer == 2 {
+            corners.push(Point::new(corner[0] as i32, corner[1] as i32));
+        }
+        book.total += count;
+        book.routes.push(RouteRecord { run, meets, count, corners });
+    }
+    assert_eq!(book.routes.len() as i64, number);
+    assert_eq!(asker.give_back(), None);
+    Ok(book)
+}
+
+/// Beside each accepted job stands a plan of it whose listing is stored too; the damaged plan books are refused as stored.
+#[test]
+fn stored_plans_are_what_is_listed() {
+    for path in samples("plan") {
+        let plan = std::fs::read(&path).expect("a sample");
+        assert_eq!(listed(&plan), read(&path.with_extension("lst")), "{}", path.display());
+        let by_archive = read_by_the_archive(&plan);
+        assert_eq!(by_archive, PlanBook::read(&plan), "{}", path.display());
+        assert!(by_archive.is_err() || path.with_extension("job").exists(), "{}: whose plan is it?", path.display());
+    }
+    for path in samples("job") {
+        let job = std::fs::read(&path).expect("a sample");
+        match (verdict(&job), std::fs::read(path.with_extension("plan"))) {
+            (Ok(_), Ok(plan)) => assert_eq!(judge(&job, &plan), Vec::<String>::new(), "{}", path.display()),
+            (Ok(_), Err(error)) => panic!("{}: no plan book: {error}", path.display()),
+            (Err(_), plan) => assert!(plan.is_err(), "{}: a plan of a refused job", path.display()),
         }
     }
 }

@@ -1,4 +1,4 @@
-//! A call needs no more stack than `include/trench.h` says.
+//! A call needs no more stack than `include/trench.h` says, and reading a plan far less.
 
 mod common;
 
@@ -12,8 +12,14 @@ fn the_stack_that_a_call_needs() {
     let program = compile(&["cc", "-std=c99", "-O1"], &[source], "stack");
     let jobs = samples("job");
     let jobs: Vec<&str> = jobs.iter().map(|path| path.to_str().expect("a name")).collect();
-    let output = run(&program, &jobs, &[]);
-    println!("stack: {} bytes", text(&output.stdout).trim());
-    assert_eq!(output.status.code(), Some(0), "{} bytes are needed", text(&output.stdout).trim());
-    assert!(text(&output.stdout).trim().parse::<usize>().expect("a number") > 1_000, "something was measured");
+    let needed = |words: &[&str]| {
+        let output = run(&program, words, &[]);
+        let printed = text(&output.stdout).trim().to_string();
+        assert_eq!(output.status.code(), Some(0), "{printed} bytes are needed");
+        printed.parse::<usize>().expect("a number")
+    };
+    let (all, reading) = (needed(&jobs), needed(&[&["--read"], &jobs[..]].concat()));
+    println!("stack: {all} bytes, to read a plan {reading}");
+    assert!(all > 1_000 && reading > 0, "something was measured");
+    assert!(reading <= all && reading <= 16_384, "reading a plan needs {reading} bytes");
 }

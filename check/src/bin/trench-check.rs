@@ -1,11 +1,12 @@
-//! Makes vectors (small jobs, their figures, their bytes, damaged books) and judges plans. `check/README.md` says what each
-//! command reads and prints.
+//! Makes vectors (small jobs, their figures, their bytes, damaged books), and reads and judges plans. `check/README.md` says
+//! what each command reads and prints.
 
 use std::io::Read;
 use std::process::ExitCode;
 
 use trench_check::book;
-use trench_check::damage;
+use trench_check::book_damage;
+use trench_check::damage::{self, Damaged};
 use trench_check::enumerate;
 use trench_check::generate::{self, KINDS};
 use trench_check::graph::Survey;
@@ -17,6 +18,7 @@ use trench_check::listing;
 use trench_check::plan_book::PlanBook;
 use trench_check::planner;
 use trench_check::random::Random;
+use trench_check::read_back;
 use trench_check::refusal;
 
 /// The number of sequences of routes up to which `figures` tries them all.
@@ -27,7 +29,9 @@ usage: trench-check jobs SEED COUNT      small star jobs of every kind, one a li
        trench-check figures [FILE]       the figures of each job of a file of such lines
        trench-check books [FILE]         the job book of each, in hexadecimal
        trench-check damaged SEED COUNT   damaged job books in hexadecimal, with the refusal that is due
+       trench-check broken SEED COUNT    damaged plan books likewise
        trench-check list JOB             the listing of a job book's plan, by the independent planner
+       trench-check read PLAN            the listing of a plan book, by the independent reader
        trench-check judge JOB PLAN       what is wrong with a plan book of a job book";
 
 fn main() -> ExitCode {
@@ -39,8 +43,14 @@ fn main() -> ExitCode {
         ["figures", file] => each_job(Some(file), figures),
         ["books"] => each_job(None, |job| book::hex(&book::job_bytes(job))),
         ["books", file] => each_job(Some(file), |job| book::hex(&book::job_bytes(job))),
-        ["damaged", seed, count] => numbers(seed, count).map(|(seed, count)| damaged(seed, count)),
+        ["damaged", seed, count] => {
+            numbers(seed, count).map(|(seed, count)| show_damaged(seed, count, damage::WAYS, damage::damaged))
+        }
+        ["broken", seed, count] => {
+            numbers(seed, count).map(|(seed, count)| show_damaged(seed, count, book_damage::WAYS, book_damage::damaged))
+        }
         ["list", job] => list(job),
+        ["read", plan] => read(plan).map(|plan| print!("{}", read_back::listed(&plan))),
         ["judge", job, plan] => judged(job, plan),
         _ => Err(USAGE.to_string()),
     };
@@ -65,9 +75,9 @@ fn jobs(seed: u64, count: u64) {
     }
 }
 
-fn damaged(seed: u64, count: u64) {
+fn show_damaged(seed: u64, count: u64, ways: usize, damaged: fn(&mut Random, usize) -> Damaged) {
     for n in 0..count {
-        let made = damage::damaged(&mut Random::nth(seed, n), (n % damage::WAYS as u64) as usize);
+        let made = damaged(&mut Random::nth(seed, n), (n % ways as u64) as usize);
         println!("{} | {} | {}", book::hex(&made.bytes), made.refusal, made.what);
     }
 }

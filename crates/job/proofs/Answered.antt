@@ -5,14 +5,14 @@ use mathlib.Core.Path.{_≡_, refl, ap, _∙_}
 use mathlib.Core.List.{List, []}
 use native.Mathlib.Omega.{arith}
 use Rattle.job.specs.declared.Run.{Run}
-use Rattle.job.specs.declared.Refusal.{Refusal}
+use Rattle.refusal.specs.declared.Refusal.{Refusal}
 use Rattle.job.specs.declared.Answer.{Answer}
 use Rattle.job.specs.declared.Reading.{Reading}
 use Rattle.job.specs.declared.Answer.the-variants.{Accepted, Refused}
 use Rattle.job.specs.Parse.{Parsed, accepted, refused, parse}
 use Rattle.job.specs.Reading.{answerNumber, answerPlace, jobOf, numberSaid, placeSaid, jobSaid, Reads}
 use Rattle.job.specs.Written.{Bytes, WellFormed}
-use Rattle.job.proofs.Order.{same-refusal, refusal-numbers}
+use Rattle.refusal.proofs.Numbers.{same-refusal, refusal-numbers}
 use Rattle.job.proofs.Accepted.{accepted-well-formed}
 
 -- the answer and the job beside it, of what the bytes say

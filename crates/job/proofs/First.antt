@@ -11,18 +11,18 @@ use lib.Seq.{drop-drop}
 use Rattle.job.specs.declared.Run.{Run}
 use Rattle.job.specs.declared.Record.{Record}
 use Rattle.job.specs.declared.Record.the-variants as rec
-use Rattle.job.specs.declared.Refusal.{Refusal}
-use Rattle.job.specs.declared.Refusal.the-variants.{Cut, UnknownKind, Misplaced}
+use Rattle.refusal.specs.declared.Refusal.{Refusal}
+use Rattle.refusal.specs.declared.Refusal.the-variants.{Cut, UnknownKind, Misplaced}
 use Rattle.job.specs.declared.Step.{Step}
 use Rattle.job.specs.declared.Step.the-variants.{Next, End, Refuse}
-use Rattle.job.specs.Refusal.{refusalPlace}
+use Rattle.refusal.specs.Refusal.{refusalPlace}
 use Rattle.job.specs.Applies.{Kind, head, run, end, byteOf, Whole, Behind, AppliesIn, cut-inside, cut-before-end, unknown-kind, no-head, second-head, after-end, wrong-count, number-zero, number-above, not-rising, out-of-range, run-33}
 use Rattle.job.specs.Order.{turnOf, Sooner, by-stage, by-place, by-turn, FirstOf}
 use Rattle.job.specs.Records.{recordOf}
 use Rattle.job.specs.Parse.{Parsed, accepted, refused, stepOf, withFirst, proceed, readFrom, firstBy, parse}
 use Rattle.job.proofs.Decoded.{CutAt, inside, before-end, UnknownAt}
 use Rattle.job.proofs.There.{There, there, behind-within}
-use Rattle.job.proofs.Located.{one-stage, Passed}
+use Rattle.job.proofs.Located.{one-stage, in-order, Passed}
 use Rattle.job.proofs.Turns.{Told, Sorted, unknown, cut, rest, least-four, least-three, least-five, step-told}
 use Rattle.job.proofs.Order.{sooner-total}
 
@@ -128,7 +128,7 @@ first-applies s x = (λ e. rw e at (parse-said s), λ f. go f (parse s) (parse-s
   where
     go : FirstOf (AppliesIn s) x → (q : Parsed) → Said s q → parse s ≡ q → parse s ≡ refused x
     go f (accepted number runs) a e = absurd (a x (f .applies))
-    go f (refused y) a e = e ∙ ap refused (sooner-total y x (f .first y (a .applies)) (a .first x (f .applies)))
+    go f (refused y) a e = e ∙ ap refused (sooner-total y x (in-order s y (a .applies)) (in-order s x (f .applies)) (f .first y (a .applies)) (a .first x (f .applies)))
 
 -- a job is accepted exactly if none applies
 pub none-applies : (s : List ℕ) → ((number : ℕ) × (runs : List Run) × (parse s ≡ accepted number runs)) ↔ ((x : Refusal) → AppliesIn s x → ⊥)

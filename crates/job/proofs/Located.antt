@@ -8,14 +8,14 @@ use mathlib.Core.Logic.{_⊎_, inl, inr}
 use mathlib.Core.List.{List}
 use native.Mathlib.Omega.{arith}
 use lib.ListN.{length, getD}
-use Rattle.job.specs.declared.Refusal.{Refusal}
-use Rattle.job.specs.declared.Refusal.the-variants.{ShortWork, ShortPlan, Cut, UnknownKind, Misplaced, WrongCount, WrongNumber, OutOfRange, TooManyRuns, NoStar}
-use Rattle.job.specs.Refusal.{refusalPlace}
+use Rattle.refusal.specs.declared.Refusal.{Refusal}
+use Rattle.refusal.specs.declared.Refusal.the-variants.{Cut, UnknownKind, Misplaced, WrongCount, WrongNumber, OutOfRange, TooManyRuns}
+use Rattle.refusal.specs.Refusal.{refusalPlace}
 use Rattle.job.specs.Applies.{head, run, end, Starts, Whole, place, Behind, numberAt, AppliesIn, cut-inside, cut-before-end, unknown-kind, no-head, second-head, after-end, wrong-count, number-zero, number-above, not-rising, out-of-range, run-33}
 use Rattle.job.specs.Order.{stageOf, turnOf, Sooner, by-stage, by-place, by-turn, FirstOf}
 use Rattle.job.proofs.Decoded.{CutAt, inside, before-end, UnknownAt}
 use Rattle.job.proofs.There.{coordinateAt, whole-uncut, whole-known}
-use Rattle.job.proofs.Order.{either-way}
+use Rattle.job.proofs.Order.{InOrder, either-way}
 
 -- ---- what is wrong with a record
 
@@ -32,17 +32,14 @@ pub record OutOfRangeAt (s : List ℕ) (p : ℕ) : Type 0 where
   pub far : 2000000 < coordinateAt s p which
 
 -- what a refusal says of the record at p, behind n runs
-abbrev pub Here : List ℕ → (n p : ℕ) → Refusal → Type 0
-Here s n p ShortWork = ⊥
-Here s n p ShortPlan = ⊥
-Here s n p (Cut q) = CutAt s p
-Here s n p (UnknownKind q) = UnknownAt s p
-Here s n p (Misplaced q) = Starts head s p
-Here s n p (WrongCount q) = Whole end s p × (numberAt s p ≡ n → ⊥)
-Here s n p (WrongNumber q) = Whole run s p × WrongNumberAt s n p
-Here s n p (OutOfRange q) = Whole run s p × OutOfRangeAt s p
-Here s n p (TooManyRuns q) = (n ≡ 32) × Starts run s p
-Here s n p NoStar = ⊥
+pub data Here (s : List ℕ) (n p : ℕ) : Refusal → Type 0 where
+  cut-here : {q : ℕ} → CutAt s p → Here s n p (Cut q)
+  unknown-here : {q : ℕ} → UnknownAt s p → Here s n p (UnknownKind q)
+  head-here : {q : ℕ} → Starts head s p → Here s n p (Misplaced q)
+  count-here : {q : ℕ} → Whole end s p → (numberAt s p ≡ n → ⊥) → Here s n p (WrongCount q)
+  number-here : {q : ℕ} → Whole run s p → WrongNumberAt s n p → Here s n p (WrongNumber q)
+  range-here : {q : ℕ} → Whole run s p → OutOfRangeAt s p → Here s n p (OutOfRange q)
+  run-33-here : {q : ℕ} → n ≡ 32 → Starts run s p → Here s n p (TooManyRuns q)
 
 module _ (s : List ℕ) (n p : ℕ) (b : Behind s n p) where
   -- 3 applies where the bytes end inside the record, or before it
@@ -58,16 +55,13 @@ module _ (s : List ℕ) (n p : ℕ) (b : Behind s n p) where
 
   -- what is wrong with a record that begins is a refusal that applies at its place
   applies-here : (x : Refusal) → p ≡ refusalPlace x → Here s n p x → AppliesIn s x
-  applies-here ShortWork e h = absurd h
-  applies-here ShortPlan e h = absurd h
-  applies-here (Cut q) e h = rw (← e) (cut-applies h)
-  applies-here (UnknownKind q) e h = rw (← e) (unknown-kind (inr (n, b)) (h .within) (h .none))
-  applies-here (Misplaced q) e h = rw (← e) (second-head b h)
-  applies-here (WrongCount q) e h = rw (← e) (wrong-count b (h .0) (h .1))
-  applies-here (WrongNumber q) e h = rw (← e) (number-applies (h .0) (h .1))
-  applies-here (OutOfRange q) e h = rw (← e) (out-of-range (h .1 .which) b (h .0) (h .1 .one) (h .1 .far))
-  applies-here (TooManyRuns q) e h = rw (← e) (run-33 (rw (h .0) at b) (h .1))
-  applies-here NoStar e h = absurd h
+  applies-here x e (cut-here c) = rw (← e) (cut-applies c)
+  applies-here x e (unknown-here u) = rw (← e) (unknown-kind (inr (n, b)) (u .within) (u .none))
+  applies-here x e (head-here h) = rw (← e) (second-head b h)
+  applies-here x e (count-here w d) = rw (← e) (wrong-count b w d)
+  applies-here x e (number-here w d) = rw (← e) (number-applies w d)
+  applies-here x e (range-here w d) = rw (← e) (out-of-range (d .which) b w (d .one) (d .far))
+  applies-here x e (run-33-here m r) = rw (← e) (run-33 (rw m at b) r)
 
 -- what applies where a head stands first: a record behind it is wrong, or a byte stands behind the end
 data Found (s : List ℕ) (x : Refusal) : Type 0 where
@@ -77,20 +71,20 @@ data Found (s : List ℕ) (x : Refusal) : Type 0 where
 -- every refusal that applies is one of the two
 found : (s : List ℕ) → Whole head s 0 → (x : Refusal) → AppliesIn s x → Found s x
 found s w x (cut-inside {p} k (inl e) h l) = let c : CutAt s p = inside k h l in absurd (whole-uncut head s 0 w (rw e at c))
-found s w x (cut-inside k (inr (n, b)) h l) = nth n _ b refl (inside k h l)
+found s w x (cut-inside k (inr (n, b)) h l) = nth n _ b refl (cut-here (inside k h l))
 found s w x (cut-before-end (inl e)) = absurd (omega (arith, w .1))
-found s w x (cut-before-end (inr (n, b))) = nth n _ b refl (before-end refl)
+found s w x (cut-before-end (inr (n, b))) = nth n _ b refl (cut-here (before-end refl))
 found s w x (unknown-kind (inl e) l f) = absurd (f head (ap (λ (i : ℕ). getD s i 0) e ∙ w .0 .1))
-found s w x (unknown-kind (inr (n, b)) l f) = nth n _ b refl (record { within = l; none = f })
+found s w x (unknown-kind (inr (n, b)) l f) = nth n _ b refl (unknown-here (record { within = l; none = f }))
 found s w x (no-head l f) = absurd (f (w .0 .1))
-found s w x (second-head b h) = nth _ _ b refl h
+found s w x (second-head b h) = nth _ _ b refl (head-here h)
 found s w x (after-end b h l) = after _ _ b h refl l
-found s w x (wrong-count b h d) = nth _ _ b refl (h, d)
-found s w x (number-zero b h e) = nth _ _ b refl (h, is-zero e)
-found s w x (number-above b h l) = nth _ _ b refl (h, above l)
-found s w x (not-rising b h l) = nth _ _ b refl (h, not-above _ refl l)
-found s w x (out-of-range i b h l f) = nth _ _ b refl (h, record { which = i; one = l; far = f })
-found s w x (run-33 b h) = nth 32 _ b refl (refl, h)
+found s w x (wrong-count b h d) = nth _ _ b refl (count-here h d)
+found s w x (number-zero b h e) = nth _ _ b refl (number-here h (is-zero e))
+found s w x (number-above b h l) = nth _ _ b refl (number-here h (above l))
+found s w x (not-rising b h l) = nth _ _ b refl (number-here h (not-above _ refl l))
+found s w x (out-of-range i b h l f) = nth _ _ b refl (range-here h (record { which = i; one = l; far = f }))
+found s w x (run-33 b h) = nth 32 _ b refl (run-33-here refl h)
 
 -- all refusals of the bytes are of one stage
 pub one-stage : (s : List ℕ) (x : Refusal) → AppliesIn s x → stageOf x ≡ stageOf (Cut 0)
@@ -106,6 +100,10 @@ one-stage s x (number-above b h l) = refl
 one-stage s x (not-rising b h l) = refl
 one-stage s x (out-of-range i b h l f) = refl
 one-stage s x (run-33 b h) = refl
+
+-- so it stands in the order
+pub in-order : (s : List ℕ) (x : Refusal) → AppliesIn s x → InOrder x
+in-order s x a = omega (arith, one-stage s x a)
 
 -- ---- the runs before a record are right
 
@@ -143,16 +141,13 @@ run-end s p w h = omega (arith, w .0 .1, h .1)
 module _ (s : List ℕ) (n p last : ℕ) (h : Passed s n p last) where
   -- nothing is wrong with a run that was passed
   settled : (m : ℕ) → m < n → (x : Refusal) → Here s m (place m) x → ⊥
-  settled m l ShortWork d = d
-  settled m l ShortPlan d = d
-  settled m l (Cut q) d = whole-uncut run s (place m) (h .behind .runs m l) d
-  settled m l (UnknownKind q) d = whole-known run s (place m) (h .behind .runs m l) d
-  settled m l (Misplaced q) d = run-head s (place m) (h .behind .runs m l) d
-  settled m l (WrongCount q) d = run-end s (place m) (h .behind .runs m l) (d .0 .0)
-  settled m l (WrongNumber q) d = h .right m l .numbered (d .1)
-  settled m l (OutOfRange q) d = h .right m l .ranged (d .1)
-  settled m l (TooManyRuns q) d = omega (arith, d .0, h .most)
-  settled m l NoStar d = d
+  settled m l x (cut-here c) = whole-uncut run s (place m) (h .behind .runs m l) c
+  settled m l x (unknown-here u) = whole-known run s (place m) (h .behind .runs m l) u
+  settled m l x (head-here d) = run-head s (place m) (h .behind .runs m l) d
+  settled m l x (count-here w d) = run-end s (place m) (h .behind .runs m l) (w .0)
+  settled m l x (number-here w d) = h .right m l .numbered d
+  settled m l x (range-here w d) = h .right m l .ranged d
+  settled m l x (run-33-here e r) = omega (arith, e, h .most)
 
   -- the run at p, where the bytes go on behind it
   run-here : (m q : ℕ) → Behind s m q → n < m → Whole run s p

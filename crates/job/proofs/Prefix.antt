@@ -19,7 +19,7 @@ use Rattle.job.specs.Records.{runBody, decoded, recordOf}
 use Rattle.job.specs.Parse.{endStep, stepBy, stepOf, proceed, readFrom, firstBy, parse}
 
 -- the rest of a prefix is a prefix of the rest
-drop-take : {A : Type 0} (k m : ℕ) (l : List A) → drop k (take m l) ≡ take (m - k) (drop k l)
+pub drop-take : {A : Type 0} (k m : ℕ) (l : List A) → drop k (take m l) ≡ take (m - k) (drop k l)
 drop-take zero m l = rw sub-zero
 drop-take (suc k) zero l = rw zero-sub
 drop-take (suc k) (suc m) [] = sym (take-nil (suc m - suc k))
@@ -27,10 +27,10 @@ drop-take (suc k) (suc m) (x ∷ l) = rw suc-sub-suc (drop-take k m l)
 
 module _ (m : ℕ) (b : List ℕ) where
   -- a field that lies in the prefix is the same there
-  word2-take : (i : ℕ) → i + 2 ≤ m → word2 (take m b) i ≡ word2 b i
+  pub word2-take : (i : ℕ) → i + 2 ≤ m → word2 (take m b) i ≡ word2 b i
   word2-take i h = rw (getD-take m b i 0 (omega arith), getD-take m b (i + 1) 0 (omega arith))
 
-  word4-take : (i : ℕ) → i + 4 ≤ m → word4 (take m b) i ≡ word4 b i
+  pub word4-take : (i : ℕ) → i + 4 ≤ m → word4 (take m b) i ≡ word4 b i
   word4-take i h =
       rw (getD-take m b i 0 (omega arith), getD-take m b (i + 1) 0 (omega arith), getD-take m b (i + 2) 0 (omega arith), getD-take m b (i + 3) 0 (omega arith))
 
@@ -80,7 +80,7 @@ step-by-take at n last m bytes (rec.End count) enough longer =
     simp (lt-ltb 3 (length (take m bytes)) (omega arith), lt-ltb 3 (length bytes) (omega arith))
 
 -- what holds of a longer list and of the prefix that is the list itself holds of every prefix
-by-length : {A : Type 0} (f : List ℕ → A) (m : ℕ) (bytes : List ℕ) → (m < length bytes → f (take m bytes) ≡ f bytes) → f (take m bytes) ≡ f bytes
+pub by-length : {A : Type 0} (f : List ℕ → A) (m : ℕ) (bytes : List ℕ) → (m < length bytes → f (take m bytes) ≡ f bytes) → f (take m bytes) ≡ f bytes
 by-length f m bytes h = go (decLe (length bytes) m)
   where
     go : Dec (length bytes ≤ m) → f (take m bytes) ≡ f bytes

@@ -10,7 +10,7 @@ use lib.Seq.{drop-drop}
 use Rattle.job.specs.declared.Run.{Run}
 use Rattle.job.specs.declared.Job.{Job}
 use Rattle.job.specs.declared.Answer.the-variants.{Accepted, Refused}
-use Rattle.job.specs.declared.Refusal.{Refusal}
+use Rattle.refusal.specs.declared.Refusal.{Refusal}
 use Rattle.job.specs.declared.Record.{Record}
 use Rattle.job.specs.declared.Record.the-variants as rec
 use Rattle.job.specs.declared.Step.the-variants.{Next, End, Refuse}

@@ -12,8 +12,8 @@ use lib.Dec.{leb, ltb, eqb}
 use lib.ListN.{length, drop, length-drop}
 use Rattle.job.specs.declared.Record.{Record}
 use Rattle.job.specs.declared.Record.the-variants as rec
-use Rattle.job.specs.declared.Refusal.{Refusal}
-use Rattle.job.specs.declared.Refusal.the-variants.{ShortWork, ShortPlan, Cut, UnknownKind, Misplaced, WrongCount, WrongNumber, OutOfRange, TooManyRuns, NoStar}
+use Rattle.refusal.specs.declared.Refusal.{Refusal}
+use Rattle.refusal.specs.declared.Refusal.the-variants.{Cut, UnknownKind, Misplaced, WrongCount, WrongNumber, OutOfRange, TooManyRuns}
 use Rattle.job.specs.declared.Step.{Step}
 use Rattle.job.specs.declared.Step.the-variants.{Next, End, Refuse}
 use Rattle.job.specs.Applies.{Kind, head, run, end, Whole, place, numberAt, AppliesIn, after-end}
@@ -22,7 +22,7 @@ use Rattle.job.specs.Parse.{follows, coordinatesIn, runStep, endStep, st
 use Rattle.job.proofs.Decoded.{by-test, CutAt, UnknownAt}
 use Rattle.job.proofs.Steps.{Follows, follows-true, Coordinates, coordinates-true}
 use Rattle.job.proofs.There.{coordinateAt, runAt, There, whole-uncut, whole-known, cut-known}
-use Rattle.job.proofs.Located.{WrongNumberAt, is-zero, above, not-above, OutOfRangeAt, Here, lastNumber, Right, Passed, Located, here, later, behind, run-head, run-end, locate, first-here}
+use Rattle.job.proofs.Located.{WrongNumberAt, is-zero, above, not-above, OutOfRangeAt, Here, cut-here, unknown-here, head-here, count-here, number-here, range-here, run-33-here, lastNumber, Right, Passed, Located, here, later, behind, run-head, run-end, locate, first-here}
 use Rattle.job.proofs.Order.{either-way, sooner-self}
 
 -- ---- the tests of a run
@@ -125,16 +125,13 @@ module _ (s : List ℕ) (p : ℕ) where
 
   -- whatever is wrong with a record behind n runs has its turn
   sort : (n : ℕ) (y : Refusal) → Here s n p y → Sorted s p y
-  sort n ShortWork d = absurd d
-  sort n ShortPlan d = absurd d
-  sort n (Cut q) d = cut refl d
-  sort n (UnknownKind q) d = unknown refl d
-  sort n (Misplaced q) d = rest (omega arith)
-  sort n (WrongCount q) d = rest (omega arith)
-  sort n (WrongNumber q) d = rest (omega arith)
-  sort n (OutOfRange q) d = rest (omega arith)
-  sort n (TooManyRuns q) d = rest (omega arith)
-  sort n NoStar d = absurd d
+  sort n y (cut-here c) = cut refl c
+  sort n y (unknown-here u) = unknown refl u
+  sort n y (head-here h) = rest (omega arith)
+  sort n y (count-here w d) = rest (omega arith)
+  sort n y (number-here w d) = rest (omega arith)
+  sort n y (range-here w d) = rest (omega arith)
+  sort n y (run-33-here m r) = rest (omega arith)
 
 -- what can be wrong with a whole run
 data RunFault (s : List ℕ) (n p : ℕ) (x : Refusal) : Type 0 where
@@ -145,29 +142,23 @@ data RunFault (s : List ℕ) (n p : ℕ) (x : Refusal) : Type 0 where
 module _ (s : List ℕ) (n p last : ℕ) (h : Passed s n p last) where
   -- a whole run can only be one too many, or have a wrong number, or a coordinate out of range
   run-fault : Whole run s p → (y : Refusal) → Here s n p y → RunFault s n p y
-  run-fault w ShortWork d = absurd d
-  run-fault w ShortPlan d = absurd d
-  run-fault w (Cut q) d = absurd (whole-uncut run s p w d)
-  run-fault w (UnknownKind q) d = absurd (whole-known run s p w d)
-  run-fault w (Misplaced q) d = absurd (run-head s p w d)
-  run-fault w (WrongCount q) d = absurd (run-end s p w (d .0 .0))
-  run-fault w (WrongNumber q) d = misnumbered refl (d .1)
-  run-fault w (OutOfRange q) d = ranging refl
-  run-fault w (TooManyRuns q) d = too-many refl (d .0)
-  run-fault w NoStar d = absurd d
+  run-fault w y (cut-here c) = absurd (whole-uncut run s p w c)
+  run-fault w y (unknown-here u) = absurd (whole-known run s p w u)
+  run-fault w y (head-here d) = absurd (run-head s p w d)
+  run-fault w y (count-here v d) = absurd (run-end s p w (v .0))
+  run-fault w y (number-here v d) = misnumbered refl d
+  run-fault w y (range-here v d) = ranging refl
+  run-fault w y (run-33-here m r) = too-many refl m
 
   -- a whole end can only have a wrong count
   end-fault : Whole end s p → (y : Refusal) → Here s n p y → (turnOf (WrongCount p) ≤ turnOf y) × (numberAt s p ≡ n → ⊥)
-  end-fault w ShortWork d = absurd d
-  end-fault w ShortPlan d = absurd d
-  end-fault w (Cut q) d = absurd (whole-uncut end s p w d)
-  end-fault w (UnknownKind q) d = absurd (whole-known end s p w d)
-  end-fault w (Misplaced q) d = absurd (omega (arith, w .0 .1, d .1))
-  end-fault w (WrongCount q) d = (omega arith, d .1)
-  end-fault w (WrongNumber q) d = absurd (run-end s p (d .0) (w .0))
-  end-fault w (OutOfRange q) d = absurd (run-end s p (d .0) (w .0))
-  end-fault w (TooManyRuns q) d = absurd (omega (arith, w .0 .1, d .1 .1))
-  end-fault w NoStar d = absurd d
+  end-fault w y (cut-here c) = absurd (whole-uncut end s p w c)
+  end-fault w y (unknown-here u) = absurd (whole-known end s p w u)
+  end-fault w y (head-here d) = absurd (omega (arith, w .0 .1, d .1))
+  end-fault w y (count-here v d) = (omega arith, d)
+  end-fault w y (number-here v d) = absurd (run-end s p v (w .0))
+  end-fault w y (range-here v d) = absurd (run-end s p v (w .0))
+  end-fault w y (run-33-here m r) = absurd (omega (arith, w .0 .1, r .1))
 
   -- of what can be wrong with a run, 9 comes first
   least-nine : (y : Refusal) → RunFault s n p y → turnOf (TooManyRuns p) ≤ turnOf y
@@ -211,13 +202,13 @@ module _ (s : List ℕ) (n p last : ℕ) (h : Passed s n p last) where
   unfolding runStep
   run-told w =
       by-test (Told s n p) (leb 32 n)
-      (λ t. first-here s n p last h (TooManyRuns p) refl (omega (arith, h .most, leb-true 32 n t), w .0) (λ y d. least-nine y (run-fault w y d)))
+      (λ t. first-here s n p last h (TooManyRuns p) refl (run-33-here (omega (arith, h .most, leb-true 32 n t)) (w .0)) (λ y d. least-nine y (run-fault w y d)))
       (λ a. by-test (Told s n p) (not (follows last (numberAt s p)))
-      (λ t. first-here s n p last h (WrongNumber p) refl (w, number-wrong s n p last (h .is-last) (not-true _ t)) (λ y d. least-seven (leb-false _ _ a) y (run-fault w y d)))
+      (λ t. first-here s n p last h (WrongNumber p) refl (number-here w (number-wrong s n p last (h .is-last) (not-true _ t))) (λ y d. least-seven (leb-false _ _ a) y (run-fault w y d)))
       (λ b.
       let f = number-right s n p last (h .is-last) (follows-true last (numberAt s p) (not-false _ b)) in
       by-test (Told s n p) (not (coordinatesIn (runAt s p)))
-      (λ t. first-here s n p last h (OutOfRange p) refl (w, range-wrong s p (not-true _ t)) (λ y d. least-eight (leb-false _ _ a) f y (run-fault w y d)))
+      (λ t. first-here s n p last h (OutOfRange p) refl (range-here w (range-wrong s p (not-true _ t))) (λ y d. least-eight (leb-false _ _ a) f y (run-fault w y d)))
       (λ c. passed-more w (leb-false _ _ a) f (range-right s p (coordinates-true (runAt s p) (not-false _ c))))))
 
   -- an end with which nothing is wrong: whatever applies is the byte behind it
@@ -234,7 +225,7 @@ module _ (s : List ℕ) (n p last : ℕ) (h : Passed s n p last) where
   unfolding endStep
   end-told w =
       by-test (Told s n p) (not (eqb (numberAt s p) n))
-      (λ t. first-here s n p last h (WrongCount p) refl (w, eqb-false _ _ (not-true _ t)) (λ y d. end-fault w y d .0))
+      (λ t. first-here s n p last h (WrongCount p) refl (count-here w (eqb-false _ _ (not-true _ t))) (λ y d. end-fault w y d .0))
       (λ a.
       let c = eqb-true (numberAt s p) n (not-false _ a) in
       by-test (Told s n p) (ltb 3 (length (drop p s)))
@@ -247,8 +238,8 @@ module _ (s : List ℕ) (n p last : ℕ) (h : Passed s n p last) where
   -- any record
   pub step-told : (g : Record) → There s p g → Told s n p (stepBy p n last (drop p s) g)
   unfolding stepBy
-  step-told rec.Unknown u = first-here s n p last h (UnknownKind p) refl u (λ y d. least-four s p y (sort s p n y d))
-  step-told rec.Cut c = first-here s n p last h (Cut p) refl c (λ y d. least-three s p c y (sort s p n y d))
-  step-told (rec.Head number) w = first-here s n p last h (Misplaced p) refl (w .0) (λ y d. least-five s p head w y (sort s p n y d))
+  step-told rec.Unknown u = first-here s n p last h (UnknownKind p) refl (unknown-here u) (λ y d. least-four s p y (sort s p n y d))
+  step-told rec.Cut c = first-here s n p last h (Cut p) refl (cut-here c) (λ y d. least-three s p c y (sort s p n y d))
+  step-told (rec.Head number) w = first-here s n p last h (Misplaced p) refl (head-here (w .0)) (λ y d. least-five s p head w y (sort s p n y d))
   step-told (rec.Run r) (w, e) = rw e (run-told w)
   step-told (rec.End count) (w, e) = rw e (end-told w)

@@ -5,8 +5,8 @@ use mathlib.Core.Logic.{inl, inr}
 use mathlib.Core.List.{List}
 use native.Mathlib.Omega.{arith}
 use lib.ListN.{length}
-use Rattle.job.specs.declared.Refusal.{Refusal}
-use Rattle.job.specs.Refusal.{refusalPlace}
+use Rattle.refusal.specs.declared.Refusal.{Refusal}
+use Rattle.refusal.specs.Refusal.{refusalPlace}
 use Rattle.job.specs.Applies.{Begins, AppliesIn, cut-inside, cut-before-end, unknown-kind, no-head, second-head, after-end, wrong-count, number-zero, number-above, not-rising, out-of-range, run-33}
 use Rattle.job.proofs.There.{behind-within}
 

@@ -3,6 +3,7 @@
 -- Assumes nothing.
 use Prim.Native.Nat.{ℕ, _+_, _-_, _*_, _%_, _^_}
 use mathlib.Core.List.{List}
+use lib.IntN.{ℤ, pos, _-ℤ_}
 use lib.ListN.{getD}
 
 -- the number in the two bytes from i on, and in the four
@@ -19,3 +20,7 @@ biasedOf w = (w + 1000000) % 2 ^ 32
 -- the word of a biased coordinate
 abbrev pub wordOf : ℕ → ℕ
 wordOf c = (c + (2 ^ 32 - 1000000)) % 2 ^ 32
+
+-- the decimetres of a biased coordinate
+abbrev pub decimetres : ℕ → ℤ
+decimetres c = pos c -ℤ pos 1000000

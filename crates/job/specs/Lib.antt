@@ -1,6 +1,5 @@
 -- document 01's meaning
 pub mod Fields
-pub mod Refusal
 pub mod Written
 pub mod Applies
 pub mod Order

@@ -7,8 +7,8 @@ use mathlib.Core.List.{List, [], _∷_}
 use mathlib.Core.Bool.{Bool, cond}
 use lib.Dec.{eqb, ltb}
 use lib.ListN.{length, getD}
-use Rattle.job.specs.Refusal.{refusalNumber, refusalPlace}
-use Rattle.job.specs.declared.Refusal.{Refusal}
+use Rattle.refusal.specs.Refusal.{refusalNumber, refusalPlace}
+use Rattle.refusal.specs.declared.Refusal.{Refusal}
 
 -- the numbers, stage by stage; within a stage front to back, and at one place in this order
 abbrev pub order : List (List ℕ)

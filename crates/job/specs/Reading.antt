@@ -5,7 +5,7 @@ use Prim.Native.Nat.{ℕ, _-_}
 use mathlib.Core.Path.{_≡_}
 use mathlib.Core.List.{List, [], map, _++_}
 use lib.ListN.{length, replicate}
-use Rattle.job.specs.Refusal.{refusalNumber, refusalPlace}
+use Rattle.refusal.specs.Refusal.{refusalNumber, refusalPlace}
 use Rattle.job.specs.Parse.{Parsed, accepted, refused, parse}
 use Rattle.job.specs.declared.Run.{Run}
 use Rattle.job.specs.declared.Job.{Job}

@@ -1,28 +1,14 @@
 // Reads a job (document 01, "Job book"): one head, then the runs, then one end.
+use refusal::Refusal;
 ghost use mathlib.Core.Path.{_≡_};
 ghost use mathlib.Core.List.{List, []};
 ghost use Prim.Native.Nat.{ℕ, _+_, _<_, _≤_};
 ghost use lib.ListN.{length, drop};
 ghost use Rattle.job.specs.Fields.{word2, word4, biasedOf};
-ghost use Rattle.job.specs.Refusal.{refusalNumber, refusalPlace};
 ghost use Rattle.job.specs.Records.{runBody, decoded, recordOf};
 ghost use Rattle.job.specs.Branches.{NotRun, NotHead};
 ghost use Rattle.job.specs.Parse.{follows, coordinatesIn, runStep, endStep, stepBy, stepOf, refused, firstBy};
 ghost use Rattle.job.specs.Reading.{jobOf, Reads};
-
-// Why a call is refused: document 01's numbers 1 to 9 and 11 in this order. A case that has a place holds it.
-pub enum Refusal {
-    ShortWork,
-    ShortPlan,
-    Cut(usize),
-    UnknownKind(usize),
-    Misplaced(usize),
-    WrongCount(usize),
-    WrongNumber(usize),
-    OutOfRange(usize),
-    TooManyRuns(usize),
-    NoStar,
-}
 
 // A run from its first point (x1, y1) to its second (x2, y2). A coordinate is the decimetres plus 1,000,000.
 pub struct Run {
@@ -72,42 +58,6 @@ pub enum Step {
     Refuse(Refusal),
 }
 
-// Document 01's number of a refusal.
-pub fn refusal_number(refusal: Refusal) -> u32
-    ensures { λ r. ⌜ r ≡ refusalNumber refusal ⌝ }
-{
-    match refusal {
-        Refusal::ShortWork => 1,
-        Refusal::ShortPlan => 2,
-        Refusal::Cut(_) => 3,
-        Refusal::UnknownKind(_) => 4,
-        Refusal::Misplaced(_) => 5,
-        Refusal::WrongCount(_) => 6,
-        Refusal::WrongNumber(_) => 7,
-        Refusal::OutOfRange(_) => 8,
-        Refusal::TooManyRuns(_) => 9,
-        Refusal::NoStar => 11,
-    }
-}
-
-// The place of a refusal, 0 for one that has none.
-pub fn refusal_place(refusal: Refusal) -> usize
-    ensures { λ r. ⌜ r ≡ refusalPlace refusal ⌝ }
-{
-    match refusal {
-        Refusal::ShortWork => 0,
-        Refusal::ShortPlan => 0,
-        Refusal::Cut(at) => at,
-        Refusal::UnknownKind(at) => at,
-        Refusal::Misplaced(at) => at,
-        Refusal::WrongCount(at) => at,
-        Refusal::WrongNumber(at) => at,
-        Refusal::OutOfRange(at) => at,
-        Refusal::TooManyRuns(at) => at,
-        Refusal::NoStar => 0,
-    }
-}
-
 fn wide(x: u8) -> u32
     ensures { λ r. ⌜ (r ≡ x) × (r < 256) ⌝ }
 {
@@ -131,7 +81,7 @@ pub fn le32(b: &[u8], i: usize) -> u32
 }
 
 // A coordinate's word, read as two's complement, plus 1,000,000: above 2,000,000 where it lies outside its range.
-fn biased(word: u32) -> u32
+pub fn biased(word: u32) -> u32
     ensures { λ r. ⌜ r ≡ biasedOf word ⌝ }
 {
     ((word as u64 + 1000000) % 4294967296) as u32

@@ -60,8 +60,8 @@ fn print_reading(reading: Reading) {
     match answer {
         Answer::Accepted => print_job(found),
         Answer::Refused(refusal) => {
-            print_number(job::refusal_number(refusal) as u64);
-            print_number(job::refusal_place(refusal) as u64);
+            print_number(refusal::number(refusal) as u64);
+            print_number(refusal::place(refusal) as u64);
         }
     }
     print(b"\n");

@@ -6,6 +6,7 @@ use mathlib.Core.List.{List, map}
 use Prim.Native.Nat.{ℕ, zero, suc, _-_, _≤_}
 use native.Mathlib.Omega.{arith}
 use lib.IntN.{ℤ, pos, negℤ}
+use lib.Dec.{eqb, ltb}
 use lib.ListN.{length, getD, take, drop}
 use lib.Seq.{take-append-seam}
 use Rattle.network.specs.Lists.{sum, All}
@@ -15,9 +16,9 @@ use Rattle.network.specs.Route.{Route, unionLength, Least}
 use Rattle.network.specs.Corners.{corners}
 use Rattle.network.proofs.Corners.{corners-least}
 use Rattle.job.specs.declared.Run.{Run as Read}
-use Rattle.job.specs.declared.Refusal.{Refusal}
-use Rattle.job.specs.declared.Refusal.the-variants.{ShortWork, ShortPlan, Cut, UnknownKind, Misplaced, WrongCount, WrongNumber, OutOfRange, TooManyRuns, NoStar}
-use Rattle.job.specs.Refusal.{refusalNumber, refusalPlace}
+use Rattle.refusal.specs.declared.Refusal.{Refusal}
+use Rattle.refusal.specs.Refusal.{refusalNumber, refusalPlace}
+use Rattle.job.specs.Order.{order, before}
 use Rattle.job.specs.Parse.{Parsed, accepted, refused, parse}
 use Rattle.job.specs.Written.{Bytes, WellFormed}
 use Rattle.plan.specs.declared.Head.{Head}
@@ -26,13 +27,13 @@ use Rattle.plan.proofs.Determined.{book-head, book-corners}
 use Rattle.plan.specs.Fits.{PointIn, HeadFits}
 use Rattle.plan.proofs.Whole.{entries-corners}
 use Rattle.job.proofs.Located.{one-stage}
-use Rattle.job.proofs.Order.{refusal-numbers}
+use Rattle.refusal.proofs.Numbers.{refusal-numbers}
 use Rattle.planner.specs.declared.Answer.{Answer}
 use Rattle.planner.specs.declared.Answer.the-variants.{Planned, Refused}
 use Rattle.planner.specs.Verdict.{verdict}
 use Rattle.planner.specs.Call.{runsOf, numbersOf, planOf, Said, gives, refuses, said, codeOf, Plans, Words}
 use Rattle.planner.specs.Outcome.{Outcome, MapOutcome}
-use Rattle.planner.specs.Demands.{JobIn, Admitted, Applies, short-work, in-bytes, Leaves, LeastPlan, Demands, PlanDemands, MapDemands}
+use Rattle.planner.specs.Demands.{JobIn, Admitted, Applies, short-work, short-plan, in-bytes, no-star, Leaves, LeastPlan, Demands, PlanDemands, MapDemands}
 use Rattle.planner.proofs.Fits.{corners-in, head-fits}
 use Rattle.planner.proofs.Verdicts.{no-plan, enough, lent-enough}
 use Rattle.planner.proofs.Stars.{judged-accepts, job-star, star-job, same-job}
@@ -69,6 +70,18 @@ module _ (number : ℕ) (runs : List Read) (w : WellFormed number runs) (routes 
         trench = ap (λ (x : Head). x .trench) h ∙ ap (unionLength g) (sym c);
       }
 
+-- the first bytes, as many as are answered, are the plan
+pub plan-front : (number : ℕ) (runs : List Read) (out : List ℕ) (s : Said) (out′ : List ℕ) (p : Plans number runs out s out′) (n : ℕ) → s ≡ gives n
+    → take n out′ ≡ planOf number runs (p .routes)
+plan-front number runs out s out′ p n a =
+    let plan = planOf number runs (p .routes) in
+    ap (λ k. take k out′) (same-length n (length plan) (sym a ∙ p .says))
+    ∙ ap (λ l. take (length plan) l) (p .plan)
+    ∙ take-append-seam plan (drop (length plan) out)
+  where
+    same-length : (a c : ℕ) → gives a ≡ gives c → a ≡ c
+    same-length a c z = cc
+
 -- ---- THE DEMANDS of a call, from the contract's outcome
 
 module _ (job : List ℕ) (words : ℕ) (out : List ℕ) (s : Said) (out′ : List ℕ) (b : Bytes job)
@@ -95,18 +108,12 @@ module _ (job : List ℕ) (words : ℕ) (out : List ℕ) (s : Said) (out′ : Li
       → bookBytes head es ≡ take n out′ → LeastPlan (j .runs) head es
   least-read n a j head es fits in-range q = go (verdict job words (length out)) refl call
     where
-      same-length : (a c : ℕ) → gives a ≡ gives c → a ≡ c
-      same-length a c z = cc
-
       go : (v : Parsed) → verdict job words (length out) ≡ v → Outcome v out s out′ → LeastPlan (j .runs) head es
       go (refused x) e o = absurd (no-plan n (refusalNumber x) (refusalPlace x) (sym a ∙ o .says))
       go (accepted number runs) e p =
           let d = lent-enough job words (length out) number runs e .2 in
-          let plan = planOf number runs (p .routes) in
-          let size : n ≡ length plan = same-length n (length plan) (sym a ∙ p .says) in
-          let front : take n out′ ≡ plan = ap (λ k. take k out′) size ∙ ap (λ l. take (length plan) l) (p .plan) ∙ take-append-seam plan (drop (length plan) out) in
           subst (λ rs. LeastPlan rs head es) (same-job job b j number runs (judged-accepts (parse job) number runs d .0) .1)
-          (read-least number runs (job-star job b number runs d .0) (p .routes) (p .least) head es fits in-range (q ∙ front))
+          (read-least number runs (job-star job b number runs d .0) (p .routes) (p .least) head es fits in-range (q ∙ plan-front number runs out s out′ p n a))
 
   -- DEMAND 1: what is said and what is left
   leaves : Leaves job words out s out′
@@ -158,19 +165,15 @@ map-demands job out code out′ b call =
       );
     }
 
--- 1 does not apply where 16,384 words are lent
+-- 1 does not apply where 16,384 words are lent: what applies to the bytes is in another stage
 never-short : (job : List ℕ) (bytes : ℕ) (x : Refusal) → Applies job 16384 bytes x → refusalNumber x ≡ 1 → ⊥
-never-short job bytes ShortWork (short-work h) e = omega arith
-never-short job bytes ShortWork (in-bytes h) e = omega (arith, one-stage job ShortWork h)
-never-short job bytes ShortPlan a e = omega arith
-never-short job bytes (Cut p) a e = omega arith
-never-short job bytes (UnknownKind p) a e = omega arith
-never-short job bytes (Misplaced p) a e = omega arith
-never-short job bytes (WrongCount p) a e = omega arith
-never-short job bytes (WrongNumber p) a e = omega arith
-never-short job bytes (OutOfRange p) a e = omega arith
-never-short job bytes (TooManyRuns p) a e = omega arith
-never-short job bytes NoStar a e = omega arith
+never-short job bytes x (short-work h) e = omega arith
+never-short job bytes x (short-plan h) e = omega arith
+never-short job bytes x (in-bytes a) e = omega (arith, one-stage job x a, ap stageAt e)
+  where
+    stageAt : ℕ → ℕ
+    stageAt n = before (λ stage. ltb (before (eqb n) stage) (length stage)) order
+never-short job bytes x (no-star j n) e = omega arith
 
 -- the refusal behind a code of the map screen's function that is minus a number: it applies, and has that number
 told-refusal : (job out : List ℕ) (code : ℤ) (out′ : List ℕ) → MapDemands job out code out′ → (n : ℕ) → code ≡ negℤ (pos (suc n))

@@ -26,7 +26,7 @@ use Rattle.network.proofs.Hanan.{hanan-all}
 use Rattle.network.proofs.Choices.{ways, indexIn, laneOf, routesOf, inFront, choices, LeastAre, leastTest, least-tested}
 use Rattle.network.specs.Pits.{unique, pitsOf}
 use Rattle.job.specs.declared.Run.{Run as Read}
-use Rattle.job.specs.declared.Refusal.the-variants.{NoStar}
+use Rattle.refusal.specs.declared.Refusal.the-variants.{NoStar}
 use Rattle.job.specs.Parse.{Parsed, accepted, refused, follows, coordinatesIn}
 use Rattle.job.specs.Written.{InRange, WellFormed, bytesOf}
 use Rattle.job.proofs.Rising.{Rising, none, more, rising-well-formed}

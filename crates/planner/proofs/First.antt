@@ -9,15 +9,15 @@ use native.Mathlib.Omega.{arith}
 use borrow.Author.Tests.{ltb-true, ltb-false}
 use lib.Dec.{ltb}
 use Rattle.job.specs.declared.Run.{Run as Read}
-use Rattle.job.specs.declared.Refusal.{Refusal}
-use Rattle.job.specs.declared.Refusal.the-variants.{ShortWork, ShortPlan, NoStar}
+use Rattle.refusal.specs.declared.Refusal.{Refusal}
+use Rattle.refusal.specs.declared.Refusal.the-variants.{ShortWork, ShortPlan, NoStar}
 use Rattle.job.specs.Order.{stageOf, turnOf, Sooner, by-stage, by-place, by-turn, FirstOf}
 use Rattle.job.specs.Applies.{AppliesIn}
 use Rattle.job.specs.Parse.{Parsed, accepted, refused, parse}
 use Rattle.job.specs.Written.{Bytes}
 use Rattle.job.proofs.Accepted.{accepted-iff}
-use Rattle.job.proofs.Order.{sooner-total, sooner-self}
-use Rattle.job.proofs.Located.{one-stage}
+use Rattle.job.proofs.Order.{InOrder, sooner-total, sooner-self}
+use Rattle.job.proofs.Located.{one-stage, in-order}
 use Rattle.job.proofs.First.{first-applies, none-applies}
 use Rattle.planner.specs.Call.{runsOf}
 use Rattle.planner.specs.Verdict.{judged, verdict}
@@ -123,13 +123,22 @@ module _ (job : List ℕ) (words bytes : ℕ) (b : Bytes job) where
       none p s (inl i) = none-applies job .0 (number, runs, p) x i
       none p s (inr (j, n, z)) = n (subst (λ rs. IsStar (runsOf rs)) (same-job job b j number runs p .1) s)
 
+  -- what applies stands in the order
+  ordered : (x : Refusal) → Applies job words bytes x → InOrder x
+  ordered x (short-work h) = omega arith
+  ordered x (short-plan h) = omega arith
+  ordered x (in-bytes a) = in-order job x a
+  ordered x (no-star j n) = omega arith
+
   -- THE FIRST THAT APPLIES IS GIVEN
   pub first-given : (x : Refusal) → (verdict job words bytes ≡ refused x) ↔ FirstOf (Applies job words bytes) x
   first-given x = (refused-first x, λ f. given f (verdict job words bytes) refl)
     where
       given : FirstOf (Applies job words bytes) x → (v : Parsed) → verdict job words bytes ≡ v → verdict job words bytes ≡ refused x
       given f (accepted number runs) e = absurd (accepted-none number runs e x (f .applies))
-      given f (refused y) e = e ∙ ap refused (sooner-total y x (f .first y (refused-first y e .applies)) (refused-first y e .first x (f .applies)))
+      given f (refused y) e =
+          let r = refused-first y e in
+          e ∙ ap refused (sooner-total y x (ordered y (r .applies)) (ordered x (f .applies)) (f .first y (r .applies)) (r .first x (f .applies)))
 
   -- AND NONE OTHERWISE
   pub none-given : ((number : ℕ) × (runs : List Read) × (verdict job words bytes ≡ accepted number runs)) ↔ ((x : Refusal) → Applies job words bytes x → ⊥)

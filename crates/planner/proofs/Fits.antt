@@ -9,17 +9,18 @@ use Rattle.network.specs.Lists.{sum, All}
 use Rattle.network.specs.Plane.{Point, Run, gap, distance}
 use Rattle.network.specs.Hanan.{xs, ys, hanan}
 use Rattle.network.specs.Route.{Route, Vertex, Routes}
-use Rattle.network.specs.Graph.{meets, below, centres}
+use Rattle.network.specs.Graph.{meets, below, degree, centres}
 use Rattle.network.specs.Corners.{corners}
 use Rattle.network.proofs.Counting.{counting}
 use Rattle.network.proofs.Corners.{corners-routes}
 use Rattle.network.proofs.Hanan.{distinct-listed}
 use Rattle.grid.proofs.Insert.{length-distinct}
+use Rattle.grid.proofs.Places.{count-le}
 use Rattle.network.specs.Pits.{among, unique, pitsOf}
 use Rattle.route.proofs.Few.{manhattan-few}
 use Rattle.job.specs.declared.Run.{Run as Read}
 use Rattle.job.specs.Written.{noRun, InRange, WellFormed}
-use Rattle.plan.specs.Plan.{headOf}
+use Rattle.plan.specs.Plan.{headOf, meetsOf}
 use Rattle.plan.specs.Fits.{PointIn, HeadFits}
 use Rattle.planner.specs.Call.{runOf, runsOf, numbersOf}
 
@@ -90,6 +91,11 @@ pub number-bounded : (l : List Read) → AllIn l → (i : ℕ) → getD (numbers
 number-bounded [] h i = omega arith
 number-bounded (r ∷ l) h zero = h 0 (omega arith) .most
 number-bounded (r ∷ l) h (suc i) = number-bounded l (tail-in r l h) i
+
+-- a run meets no more runs than there are
+pub meets-most : (l : List Read) (i : ℕ) → meetsOf (runsOf l) i ≤ length l
+unfolding degree
+meets-most l i = omega (arith, count-le (meets (hanan (runsOf l)) (runsOf l) i) (length (runsOf l)), length-map l runOf)
 
 unique-few : (l : List Point) → length (unique l) ≤ length l
 unfolding unique

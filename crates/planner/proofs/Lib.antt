@@ -3,6 +3,7 @@ pub mod Stars
 pub mod First
 pub mod Demands
 pub mod Fits
+pub mod Stored
 pub mod Examples
 pub mod Held
 pub mod Verdicts

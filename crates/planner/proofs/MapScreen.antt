@@ -8,12 +8,12 @@ use lib.ListN.{length, length-map}
 use mir.Syntax.{w32}
 use mir.Val.{toZ, ofZ}
 use mir.ValLaws.{toZ-pos, toZ-ofZ}
-use Rattle.job.specs.declared.Refusal.{Refusal}
-use Rattle.job.specs.declared.Refusal.the-variants.{ShortPlan}
-use Rattle.job.specs.Refusal.{refusalNumber, refusalPlace}
+use Rattle.refusal.specs.declared.Refusal.{Refusal}
+use Rattle.refusal.specs.declared.Refusal.the-variants.{ShortPlan}
+use Rattle.refusal.specs.Refusal.{refusalNumber, refusalPlace}
 use Rattle.job.specs.Parse.{Parsed, accepted, refused, parse}
 use Rattle.job.specs.Written.{Bytes}
-use Rattle.job.proofs.Order.{refusal-numbers}
+use Rattle.refusal.proofs.Numbers.{refusal-numbers}
 use Rattle.plan.proofs.Whole.{plan-most}
 use Rattle.planner.specs.declared.Answer.{Answer}
 use Rattle.planner.specs.declared.Answer.the-variants.{Planned, Refused}

@@ -17,7 +17,7 @@ use Rattle.intersection.specs.Star.{meetsIn, starOf}
 use Rattle.intersection.specs.declared.Star.the-variants.{Centre}
 use Rattle.intersection.proofs.Stars.{set-joined}
 use Rattle.job.specs.declared.Job.{Job}
-use Rattle.job.specs.declared.Refusal.{Refusal}
+use Rattle.refusal.specs.declared.Refusal.{Refusal}
 use Rattle.job.specs.Parse.{parse}
 use Rattle.table.specs.Rule.{Beyond}
 use Rattle.table.specs.OnSides.{OnSides}

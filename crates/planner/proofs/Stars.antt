@@ -13,8 +13,8 @@ use Rattle.network.proofs.Centres.{centre-true, true-centre, centres-first, cen
 use Rattle.network.proofs.Leaves.{below-member, member-below}
 use Rattle.network.specs.Entries.{below-rises}
 use Rattle.job.specs.declared.Run.{Run as Read}
-use Rattle.job.specs.declared.Refusal.{Refusal}
-use Rattle.job.specs.declared.Refusal.the-variants.{NoStar}
+use Rattle.refusal.specs.declared.Refusal.{Refusal}
+use Rattle.refusal.specs.declared.Refusal.the-variants.{NoStar}
 use Rattle.job.specs.Parse.{Parsed, accepted, refused, parse}
 use Rattle.job.specs.Written.{Bytes, WellFormed, bytesOf}
 use Rattle.job.proofs.Accepted.{accepted-iff}

@@ -8,8 +8,8 @@ use native.Mathlib.Omega.{arith}
 use borrow.Author.Tests.{lt-ltb, le-ltb, ltb-false}
 use lib.ListN.{length}
 use Rattle.job.specs.declared.Run.{Run as Read}
-use Rattle.job.specs.declared.Refusal.{Refusal}
-use Rattle.job.specs.declared.Refusal.the-variants.{ShortWork, ShortPlan, NoStar}
+use Rattle.refusal.specs.declared.Refusal.{Refusal}
+use Rattle.refusal.specs.declared.Refusal.the-variants.{ShortWork, ShortPlan, NoStar}
 use Rattle.job.specs.Parse.{accepted, refused, parse}
 use Rattle.intersection.specs.declared.Star.the-variants as star
 use Rattle.intersection.specs.Star.{starOf}

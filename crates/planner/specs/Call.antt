@@ -9,7 +9,7 @@ use Rattle.network.specs.Plane.{Run, _to_}
 use Rattle.network.specs.Hanan.{hanan}
 use Rattle.network.specs.Route.{Route, Least}
 use Rattle.job.specs.declared.Run.{Run as Read}
-use Rattle.job.specs.Refusal.{refusalNumber, refusalPlace}
+use Rattle.refusal.specs.Refusal.{refusalNumber, refusalPlace}
 use Rattle.plan.specs.Plan.{planBytes}
 use Rattle.planner.specs.declared.Answer.{Answer}
 use Rattle.planner.specs.declared.Answer.the-variants.{Planned, Refused}

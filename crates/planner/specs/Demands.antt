@@ -12,9 +12,9 @@ use Rattle.network.specs.Hanan.{hanan}
 use Rattle.network.specs.Route.{unionLength, Least}
 use Rattle.network.specs.Graph.{meets, below, isCentre}
 use Rattle.job.specs.declared.Run.{Run as Read}
-use Rattle.job.specs.declared.Refusal.{Refusal}
-use Rattle.job.specs.declared.Refusal.the-variants.{ShortWork, ShortPlan, NoStar}
-use Rattle.job.specs.Refusal.{refusalNumber, refusalPlace}
+use Rattle.refusal.specs.declared.Refusal.{Refusal}
+use Rattle.refusal.specs.declared.Refusal.the-variants.{ShortWork, ShortPlan, NoStar}
+use Rattle.refusal.specs.Refusal.{refusalNumber, refusalPlace}
 use Rattle.job.specs.Applies.{AppliesIn}
 use Rattle.job.specs.Order.{FirstOf}
 use Rattle.job.specs.Written.{WellFormed, bytesOf}

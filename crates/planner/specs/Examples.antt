@@ -8,7 +8,7 @@ use Rattle.network.specs.Hanan.{hanan}
 use Rattle.network.specs.Route.{Route, Least}
 use Rattle.network.specs.Corners.{corners}
 use Rattle.job.specs.declared.Run.{Run as Read}
-use Rattle.job.specs.declared.Refusal.the-variants.{NoStar}
+use Rattle.refusal.specs.declared.Refusal.the-variants.{NoStar}
 use Rattle.job.specs.Parse.{Parsed, accepted, refused}
 use Rattle.job.specs.Written.{bytesOf}
 use Rattle.plan.specs.declared.Head.{Head}

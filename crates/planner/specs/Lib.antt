@@ -5,8 +5,10 @@ pub mod Demands
 -- the contracts of the two entry points, which the demands follow from
 pub mod Verdict
 pub mod Outcome
--- the examples of document 01
+-- what is read of a plan that was stored
 pub mod Figures
+pub mod Stored
+-- the examples of document 01
 pub mod Examples
 -- what the contracts of the stages between speak of, and no demand
 pub mod Held

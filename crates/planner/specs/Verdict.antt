@@ -9,7 +9,7 @@ use lib.ListN.{length}
 use Rattle.network.specs.Plane.{Run}
 use Rattle.network.specs.Hanan.{hanan}
 use Rattle.network.specs.Graph.{meets, below, centres}
-use Rattle.job.specs.declared.Refusal.the-variants.{ShortWork, ShortPlan, NoStar}
+use Rattle.refusal.specs.declared.Refusal.the-variants.{ShortWork, ShortPlan, NoStar}
 use Rattle.job.specs.Parse.{Parsed, accepted, refused, parse}
 use Rattle.planner.specs.Call.{runsOf}
 

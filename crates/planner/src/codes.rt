@@ -1,15 +1,15 @@
 // What the map screen is told: "the plan's length, or minus the refusal number" (document 01, What a call says and leaves).
-use job::Refusal;
+use refusal::Refusal;
 ghost use mathlib.Core.Path.{_≡_};
 ghost use Prim.Native.Nat.{_≤_};
 ghost use lib.IntN.{pos, negℤ};
-ghost use Rattle.job.specs.Refusal.{refusalNumber};
+ghost use Rattle.refusal.specs.Refusal.{refusalNumber};
 
 // Minus the number of a refusal.
 pub fn code_of(refusal: Refusal) -> i32
     ensures { λ r. ⌜ r ≡ negℤ (pos (refusalNumber refusal)) ⌝ }
 {
-    -(job::refusal_number(refusal) as i32)
+    -(refusal::number(refusal) as i32)
 }
 
 // A plan's length.

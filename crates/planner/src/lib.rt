@@ -1,13 +1,13 @@
 // The planner: a job's bytes into the bytes of a least plan.
 mod clear;
-mod codes;
+pub mod codes;
 mod figures;
 mod judge;
 mod star;
 
 use intersection::Star;
 use job::Job;
-use job::Refusal;
+use refusal::Refusal;
 ghost use Prim.Native.Nat.{_≤_};
 ghost use lib.ListN.{length};
 ghost use Rattle.job.specs.Parse.{accepted, parse};
@@ -152,9 +152,8 @@ fn plan_own(job: &[u8], out: &mut [u8]) -> Answer
     plan_32(job, out)
 }
 
-// The map screen's function: the plan's length, or minus the refusal number. It has work words of its own.
-#[no_mangle]
-pub extern "C" fn trench_plan(job: &[u8], out: &mut [u8]) -> i32
+// Plans a job for the map screen: the plan's length, or minus the refusal number. It has work words of its own.
+pub fn plan_for_map(job: &[u8], out: &mut [u8]) -> i32
     ensures { λ r. ⌜ MapOutcome (verdict (now (job .entry)) 16384 (length (now (out .entry)))) (now (out .entry)) r (now (out .exit)) ⌝ }
 {
     if out.len() < PLAN_BYTES {

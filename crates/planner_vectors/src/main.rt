@@ -1,11 +1,11 @@
 // Plans each job on standard input on a dirty work sheet and into a dirty plan buffer, of several sizes. A line of the input is a label, a space
 // and the job's bytes in hexadecimal. A line of the output has the label and, for each call, the refusal's number and place, or the plan's centre,
 // trench, saved and meets figures; then `kept`, or `changed` if a byte or a word that is lent is not as it is due. Four calls of `plan` are
-// followed by two of `trench_plan`, which answers the refusal's number alone.
+// followed by two of `plan_for_map`, which answers the refusal's number alone.
 use libc::STDIN_FILENO;
 use libc::STDOUT_FILENO;
 use planner::Answer;
-use text::Record;
+use records::Record;
 ghost use mathlib.Core.Path.{_≡_};
 ghost use Prim.Native.Nat.{_≤_};
 ghost use lib.ListN.{length};
@@ -96,7 +96,7 @@ fn print_record(found: Record) {
             corners,
         } => print_number(meets as u64),
         Record::Corner { x, y } => {}
-        Record::End => {}
+        Record::End(_) => {}
         Record::Other => print(b" other"),
     }
 }
@@ -105,7 +105,7 @@ fn print_record(found: Record) {
 fn print_figures(plan: &[u8]) -> usize {
     let mut at: usize = 0;
     while at < plan.len() {
-        let found = text::first_record(&plan[at..]);
+        let found = records::first_record(&plan[at..]);
         print_record(found);
         let left = plan.len() - at;
         let size = text::record_size(found, left);
@@ -150,8 +150,8 @@ fn call(job: &[u8], work: &mut [u32], out: &mut [u8]) {
             print_kept(kept & is_cleared(work));
         }
         Answer::Refused(refusal) => {
-            print_number(job::refusal_number(refusal) as u64);
-            print_number(job::refusal_place(refusal) as u64);
+            print_number(refusal::number(refusal) as u64);
+            print_number(refusal::place(refusal) as u64);
             print_kept(words_kept(work) & bytes_kept(out, 0));
         }
     }
@@ -159,7 +159,7 @@ fn call(job: &[u8], work: &mut [u32], out: &mut [u8]) {
 
 fn map_call(job: &[u8], out: &mut [u8]) {
     print(b" |");
-    let code = planner::trench_plan(job, out);
+    let code = planner::plan_for_map(job, out);
     if code < 0 {
         print_number(refusal_of(code));
         print_kept(bytes_kept(out, 0));

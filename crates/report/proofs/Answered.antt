@@ -8,12 +8,12 @@ use lib.ListN.{length, replicate, length-replicate}
 use Rattle.network.specs.Hanan.{hanan}
 use Rattle.network.specs.Route.{Route, Least}
 use Rattle.job.specs.declared.Run.{Run as Read}
-use Rattle.job.specs.declared.Refusal.{Refusal}
+use Rattle.refusal.specs.declared.Refusal.{Refusal}
 use Rattle.job.specs.Parse.{Parsed, accepted, refused, parse}
 use Rattle.planner.specs.declared.Answer.{Answer}
 use Rattle.planner.specs.declared.Answer.the-variants.{Planned, Refused}
-use Rattle.job.specs.Refusal.{refusalNumber, refusalPlace}
-use Rattle.job.proofs.Order.{same-refusal}
+use Rattle.refusal.specs.Refusal.{refusalNumber, refusalPlace}
+use Rattle.refusal.proofs.Numbers.{same-refusal}
 use Rattle.planner.specs.Call.{runsOf, planOf, gives, said}
 use Rattle.planner.specs.Verdict.{judged, verdict}
 use Rattle.planner.specs.Outcome.{Outcome}

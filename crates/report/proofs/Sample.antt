@@ -5,7 +5,7 @@ use mathlib.Core.List.{List, [], _++_, append-assoc, flatMap}
 use Prim.Native.Nat.{ℕ, _<_, _^_}
 use native.Mathlib.Omega.{arith}
 use Rattle.job.specs.declared.Run.{Run as Read}
-use Rattle.job.specs.declared.Refusal.the-variants.{NoStar}
+use Rattle.refusal.specs.declared.Refusal.the-variants.{NoStar}
 use Rattle.job.specs.Parse.{Parsed, parse}
 use Rattle.job.specs.Written.{bytesOf}
 use Rattle.plan.specs.declared.Head.{Head}

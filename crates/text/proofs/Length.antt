@@ -1,22 +1,21 @@
--- How long texts are: a plan's has at most 85 characters for the head, 37 for each run and 18 for each corner, a refusal's at most 35. So a buffer of
--- 74,421 bytes has room for each.
+-- How long texts are: a right book's has at most 85 characters for the head, 37 for each run and 18 for each of at most 127 corners, a refusal's at most 35.
+-- So a buffer of 74,421 bytes has room for each.
 use mathlib.Core.List.{List, [], _∷_, _++_, flatMap}
 use Prim.Native.Nat.{_+_, _*_, _≤_, _<_, _^_}
 use native.Mathlib.Omega.{arith}
 use lib.ListN.{length, length-append}
 use Rattle.network.specs.Lists.{All}
 use Rattle.network.specs.Plane.{Point}
-use Rattle.job.specs.declared.Refusal.{Refusal}
-use Rattle.job.proofs.Order.{refusal-numbers}
-use Rattle.job.specs.Refusal.{refusalNumber, refusalPlace}
+use Rattle.refusal.specs.declared.Refusal.{Refusal}
+use Rattle.refusal.proofs.Numbers.{refusal-numbers}
+use Rattle.refusal.specs.Refusal.{refusalNumber, refusalPlace}
 use Rattle.plan.specs.declared.Head.{Head}
-use Rattle.plan.specs.Plan.{Entry, totalCorners}
-use Rattle.plan.proofs.Length.{total-few}
+use Rattle.plan.specs.Plan.{Entry}
 use Rattle.plan.specs.Fits.{PointIn, HeadFits}
+use Rattle.book.specs.Right.{RightEntry, RightBook}
 use Rattle.text.specs.Numerals.{ascii}
 use Rattle.text.specs.Text.{headText, pointText, entryText, planText, refusalText}
 use Rattle.text.proofs.Numerals.{decimal-length}
-use Rattle.text.proofs.Plan.{EntryFits}
 use Rattle.text.proofs.Signed.{decimetres-length}
 
 -- the head, without its line feed
@@ -43,49 +42,43 @@ points-length [] a = omega arith
 points-length (p ∷ ps) a = omega (arith, length-append (pointText p) (flatMap pointText ps), point-length p (a .0), points-length ps (a .1))
 
 -- the line of a run, without its line feed
-entry-length : (e : Entry) → EntryFits e → All PointIn (e .corners) → length (e .corners) ≤ 127 → length (entryText e) ≤ 36 + 18 * length (e .corners)
-entry-length e f a h =
+entry-length : (e : Entry) → RightEntry e → length (entryText e) ≤ 36 + 18 * length (e .corners)
+entry-length e r =
     simp length-append (omega (
       arith,
-      decimal-length 4 (e .number) (omega (arith, f .number-fits)),
-      decimal-length 4 (e .meets) (omega (arith, f .meets-fits)),
-      decimal-length 2 (length (e .corners)) (omega arith),
-      points-length (e .corners) a,
+      decimal-length 4 (e .number) (omega (arith, r .number-fits)),
+      decimal-length 4 (e .meets) (omega (arith, r .meets-fits)),
+      decimal-length 2 (length (e .corners)) (omega (arith, r .few)),
+      points-length (e .corners) (r .in-range),
     ))
 
--- the lines of all runs
-entries-length : (es : List Entry) → All EntryFits es → All (λ e. All PointIn (e .corners)) es → All (λ e. length (e .corners) ≤ 127) es
-    → length (flatMap (λ e. entryText e ++ ascii "\n") es) ≤ 37 * length es + 18 * totalCorners es
+-- the lines of all runs, which have at most 127 corners each
+entries-length : (es : List Entry) → All RightEntry es → length (flatMap (λ e. entryText e ++ ascii "\n") es) ≤ 2323 * length es
 unfolding flatMap
-entries-length [] f a h = omega arith
-entries-length (e ∷ es) f a h =
+entries-length [] r = omega arith
+entries-length (e ∷ es) r =
     let lines = flatMap (λ e. entryText e ++ ascii "\n") es in
     omega (
       arith,
       length-append (entryText e ++ ascii "\n") lines,
       length-append (entryText e) (ascii "\n"),
-      entry-length e (f .0) (a .0) (h .0),
-      entries-length es (f .1) (a .1) (h .1),
+      entry-length e (r .0),
+      r .0 .few,
+      entries-length es (r .1),
     )
 
-module _ (head : Head) (es : List Entry) (g : HeadFits head) (f : All EntryFits es) (a : All (λ e. All PointIn (e .corners)) es)
-    (h : All (λ e. length (e .corners) ≤ 127) es) where
-  -- the text of a plan whose figures fit their fields, and whose corners lie in their range
-  plan-length : length (planText head es) ≤ 85 + 37 * length es + 18 * totalCorners es
-  unfolding planText
-  plan-length =
-      omega (
-        arith,
-        length-append (headText head ++ ascii "\n") (flatMap (λ e. entryText e ++ ascii "\n") es),
-        length-append (headText head) (ascii "\n"),
-        head-length head g,
-        entries-length es f a h,
-      )
-
-  module _ (few : length es ≤ 32) where
-    -- no text of at most 32 runs exceeds 74,421 bytes
-    pub plan-text-most : length (planText head es) ≤ 74421
-    plan-text-most = omega (arith, plan-length, total-few es h)
+-- no text of a right book exceeds 74,421 bytes
+pub plan-text-most : (head : Head) (es : List Entry) → RightBook head es → length (planText head es) ≤ 74421
+unfolding planText
+plan-text-most head es r =
+    omega (
+      arith,
+      length-append (headText head ++ ascii "\n") (flatMap (λ e. entryText e ++ ascii "\n") es),
+      length-append (headText head) (ascii "\n"),
+      head-length head (r .head-fits),
+      entries-length es (r .entries),
+      r .few,
+    )
 
 -- ---- refusals
 

@@ -6,9 +6,9 @@ use native.Mathlib.Omega.{arith}
 use lib.ListN.{length, take, drop, length-drop, drop-of-length-le}
 use lib.Seq.{take-all, drop-drop}
 use borrow.Rule.Slice.PartMut.{midOf, putMid}
-use Rattle.text.specs.declared.Record.{Record}
+use Rattle.records.specs.declared.Record.{Record}
 use Rattle.text.specs.declared.Step.{Step}
-use Rattle.text.specs.Records.{recordOf}
+use Rattle.records.specs.Records.{recordOf}
 use Rattle.text.specs.Listing.{recordText, recordSize, listingFrom, listingOf}
 use Rattle.text.specs.Listed.{Listed, ListedRecord}
 use Rattle.text.proofs.Listed.{listed-none, listed-next, listed-same}

@@ -1,72 +1,26 @@
 -- The text of a written plan is the plan's text: each record is read back, and the line feed that stands before a line in one is behind it in the other.
 use mathlib.Core.Path.{_≡_, refl, sym, ap, ap₂, _∙_}
 use mathlib.Core.List.{List, [], _∷_, _++_, flatMap, append-assoc, append-nil}
-use Prim.Native.Nat.{ℕ, _≤_, _<_}
+use Prim.Native.Nat.{ℕ, _<_}
 use native.Mathlib.Omega.{arith}
-use borrow.Author.Tests.{le-ltb}
 use lib.ListN.{length, drop}
 use lib.Seq.{drop-length}
 use Rattle.network.specs.Lists.{All}
 use Rattle.network.specs.Plane.{Point}
-use Rattle.job.specs.Fields.{wordOf}
-use Rattle.job.proofs.Fields.{word2-bytes, word4-bytes}
 use Rattle.plan.specs.declared.Head.{Head}
 use Rattle.plan.specs.Records.{headRecord, routeRecord, cornerRecord, endRecord}
 use Rattle.plan.specs.Plan.{Entry, entryBytes, totalCorners, bookBytes}
 use Rattle.plan.specs.Fits.{PointIn, HeadFits}
+use Rattle.book.specs.Right.{RightEntry, RightBook}
+use Rattle.records.proofs.Records.{head-read, route-read, corner-read, end-kind}
 use Rattle.text.specs.Numerals.{ascii}
 use Rattle.text.specs.Text.{headText, routeText, cornerText, pointText, entryText, planText}
-use Rattle.text.specs.Records.{whole, decoded, recordOf}
+use Rattle.records.specs.Records.{recordOf}
 use Rattle.text.specs.Listing.{recordText, recordSize, listingFrom, listingOf}
-use Rattle.text.specs.declared.Record.{Record}
-use Rattle.text.specs.declared.Record.the-variants as rec
+use Rattle.records.specs.declared.Record.{Record}
+use Rattle.records.specs.declared.Record.the-variants as rec
 use Rattle.text.proofs.Signed.{word-decimetres}
 use Rattle.text.proofs.Listing.{listing-step}
-
--- a run's figures fit their fields
-pub record EntryFits (e : Entry) : Type 0 where
-  pub number-fits : e .number < 65536
-  pub meets-fits : e .meets < 65536
-
--- ---- a written record is read back
-
--- a body that is long enough is read as its kind says
-whole-read : (size : ℕ) (b : List ℕ) (r : Record) → size ≤ length b → whole size b r ≡ r
-whole-read size b r h = rw (le-ltb (length b) size h)
-
--- a head
-head-read : (h : Head) (rest : List ℕ) → HeadFits h → recordOf (headRecord h ++ rest) ≡ rec.Head h
-unfolding recordOf decoded
-head-read h rest f =
-    whole-read 18 (drop 1 (headRecord h ++ rest)) _ (omega arith)
-    ∙ λ i. rec.Head (record {
-      job = word4-bytes (h .job) (f .job-fits) [] i;
-      runs = word2-bytes (h .runs) (f .runs-fits) [] i;
-      trench = word4-bytes (h .trench) (f .trench-fits) [] i;
-      saved = word4-bytes (h .saved) (f .saved-fits) [] i;
-      pits = word2-bytes (h .pits) (f .pits-fits) [] i;
-      centre = word2-bytes (h .centre) (f .centre-fits) [] i;
-    })
-
--- a route
-route-read : (number meets corners : ℕ) (rest : List ℕ) → number < 65536 → meets < 65536 → corners < 65536
-    → recordOf (routeRecord number meets corners ++ rest) ≡ rec.Route number meets corners
-unfolding recordOf decoded
-route-read number meets corners rest f g h =
-    whole-read 6 (drop 1 (routeRecord number meets corners ++ rest)) _ (omega arith)
-    ∙ λ i. rec.Route (word2-bytes number f [] i) (word2-bytes meets g [] i) (word2-bytes corners h [] i)
-
--- a corner, as words
-corner-read : (p : Point) (rest : List ℕ) → recordOf (cornerRecord p ++ rest) ≡ rec.Corner (wordOf (p .x)) (wordOf (p .y))
-unfolding recordOf decoded
-corner-read p rest =
-    whole-read 8 (drop 1 (cornerRecord p ++ rest)) _ (omega arith)
-    ∙ λ i. rec.Corner (word4-bytes (wordOf (p .x)) (omega arith) [] i) (word4-bytes (wordOf (p .y)) (omega arith) [] i)
-
--- an end
-end-read : (corners : ℕ) (rest : List ℕ) → recordOf (endRecord corners ++ rest) ≡ rec.End
-unfolding recordOf decoded
-end-read corners rest = whole-read 2 (drop 1 (endRecord corners ++ rest)) _ (omega arith)
 
 -- ---- the text of each, and of what stands behind it
 
@@ -96,7 +50,7 @@ corner-listing p rest f =
 end-listing : (corners : ℕ) (rest : List ℕ) → listingOf (endRecord corners ++ rest) ≡ ascii "\n"
 unfolding recordText recordSize listingOf listingFrom
 end-listing corners rest =
-    listing-of (endRecord corners ++ rest) _ (end-read corners rest)
+    listing-of (endRecord corners ++ rest) _ (end-kind corners rest)
     ∙ ap (λ l. ascii "\n" ++ listingOf l) (drop-length (endRecord corners ++ rest))
 
 -- ---- the records of a plan, one behind the other
@@ -112,25 +66,25 @@ corners-listing (p ∷ ps) rest a =
     ∙ sym (append-assoc (pointText p) (flatMap pointText ps) (listingOf rest))
 
 -- the records of a run
-entry-listing : (e : Entry) (rest : List ℕ) → EntryFits e → All PointIn (e .corners) → length (e .corners) ≤ 127
-    → listingOf (entryBytes e ++ rest) ≡ (ascii "\n" ++ entryText e) ++ listingOf rest
-entry-listing e rest f a h =
+entry-listing : (e : Entry) (rest : List ℕ) → RightEntry e → listingOf (entryBytes e ++ rest) ≡ (ascii "\n" ++ entryText e) ++ listingOf rest
+entry-listing e rest r =
     let route = routeRecord (e .number) (e .meets) (length (e .corners)) in
     let line = ascii "\n" ++ routeText (e .number) (e .meets) (length (e .corners)) in
     ap listingOf (append-assoc route (flatMap cornerRecord (e .corners)) rest)
-    ∙ route-listing (e .number) (e .meets) (length (e .corners)) (flatMap cornerRecord (e .corners) ++ rest) (f .number-fits) (f .meets-fits) (omega arith)
-    ∙ ap (λ t. line ++ t) (corners-listing (e .corners) rest a)
+    ∙ route-listing (e .number) (e .meets) (length (e .corners)) (flatMap cornerRecord (e .corners) ++ rest) (r .number-fits) (r .meets-fits)
+    (omega (arith, r .few))
+    ∙ ap (λ t. line ++ t) (corners-listing (e .corners) rest (r .in-range))
     ∙ sym (append-assoc line (flatMap pointText (e .corners)) (listingOf rest))
 
 -- the records of all runs
-entries-listing : (es : List Entry) (rest : List ℕ) → All EntryFits es → All (λ e. All PointIn (e .corners)) es → All (λ e. length (e .corners) ≤ 127) es
+entries-listing : (es : List Entry) (rest : List ℕ) → All RightEntry es
     → listingOf (flatMap entryBytes es ++ rest) ≡ flatMap (λ e. ascii "\n" ++ entryText e) es ++ listingOf rest
 unfolding flatMap
-entries-listing [] rest f a h = refl
-entries-listing (e ∷ es) rest f a h =
+entries-listing [] rest r = refl
+entries-listing (e ∷ es) rest r =
     ap listingOf (append-assoc (entryBytes e) (flatMap entryBytes es) rest)
-    ∙ entry-listing e (flatMap entryBytes es ++ rest) (f .0) (a .0) (h .0)
-    ∙ ap (λ t. (ascii "\n" ++ entryText e) ++ t) (entries-listing es rest (f .1) (a .1) (h .1))
+    ∙ entry-listing e (flatMap entryBytes es ++ rest) (r .0)
+    ∙ ap (λ t. (ascii "\n" ++ entryText e) ++ t) (entries-listing es rest (r .1))
     ∙ sym (append-assoc (ascii "\n" ++ entryText e) (flatMap (λ e. ascii "\n" ++ entryText e) es) (listingOf rest))
 
 -- a separator before each text and one at the end, or one first and then one behind each
@@ -142,14 +96,15 @@ separators s f (a ∷ l) =
     ∙ ap (λ t. (s ++ f a) ++ t) (separators s f l)
     ∙ simp append-assoc
 
--- The listing of a plan's bytes, whatever stands behind them, is the plan's text.
-pub plan-listing : (head : Head) (es : List Entry) → HeadFits head → All EntryFits es → All (λ e. All PointIn (e .corners)) es
-    → All (λ e. length (e .corners) ≤ 127) es → (rest : List ℕ) → listingOf (bookBytes head es ++ rest) ≡ planText head es
+-- The listing of a right book's bytes, whatever stands behind them, is the plan's text.
+pub plan-listing : (head : Head) (es : List Entry) → RightBook head es → (rest : List ℕ) → listingOf (bookBytes head es ++ rest) ≡ planText head es
 unfolding bookBytes planText
-plan-listing head es g f a h rest =
+plan-listing head es r rest =
     let end = endRecord (totalCorners es) in
     let lines = flatMap (λ e. ascii "\n" ++ entryText e) es in
-    ap listingOf (append-assoc (headRecord head) (flatMap entryBytes es ++ end) rest ∙ ap (λ l. headRecord head ++ l) (append-assoc (flatMap entryBytes es) end rest))
-    ∙ head-listing head (flatMap entryBytes es ++ (end ++ rest)) g
-    ∙ ap (λ t. headText head ++ t) (entries-listing es (end ++ rest) f a h ∙ ap (λ t. lines ++ t) (end-listing (totalCorners es) rest) ∙ separators (ascii "\n") entryText es)
+    ap listingOf
+    (append-assoc (headRecord head) (flatMap entryBytes es ++ end) rest ∙ ap (λ l. headRecord head ++ l) (append-assoc (flatMap entryBytes es) end rest))
+    ∙ head-listing head (flatMap entryBytes es ++ (end ++ rest)) (r .head-fits)
+    ∙ ap (λ t. headText head ++ t)
+    (entries-listing es (end ++ rest) (r .entries) ∙ ap (λ t. lines ++ t) (end-listing (totalCorners es) rest) ∙ separators (ascii "\n") entryText es)
     ∙ sym (append-assoc (headText head) (ascii "\n") (flatMap (λ e. entryText e ++ ascii "\n") es))

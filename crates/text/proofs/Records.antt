@@ -1,28 +1,16 @@
--- The record that bytes begin with, and how many of them it takes.
+-- How many bytes the record takes that they begin with.
 use mathlib.Core.Path.{_≡_, refl}
 use mathlib.Core.List.{List, [], _∷_}
-use Prim.Native.Nat.{ℕ, suc, _-_, _≤_, _<_}
+use Prim.Native.Nat.{ℕ, suc, _-_, _≤_}
 use native.Mathlib.Omega.{arith}
 use borrow.Author.Tests.{ltb-false}
 use lib.Dec.{ltb, eqb}
-use lib.ListN.{length, getD, drop}
+use lib.ListN.{length}
 use Rattle.job.proofs.Decoded.{by-test}
-use Rattle.text.specs.Records.{whole, decoded, recordOf}
+use Rattle.records.specs.Records.{whole, decoded, recordOf}
 use Rattle.text.specs.Listing.{recordSize}
-use Rattle.text.specs.declared.Record.{Record}
-use Rattle.text.specs.declared.Record.the-variants as rec
-
--- where no byte is left there is no record
-pub record-none : (bytes : List ℕ) → length bytes ≡ 0 → rec.Other ≡ recordOf bytes
-unfolding recordOf
-record-none [] h = refl
-record-none (b ∷ bytes) h = absurd (omega arith)
-
--- else it is that of the first byte's kind
-pub record-some : (bytes : List ℕ) → 0 < length bytes → decoded (getD bytes 0 0) (drop 1 bytes) ≡ recordOf bytes
-unfolding recordOf
-record-some [] h = absurd (omega arith)
-record-some (b ∷ bytes) h = refl
+use Rattle.records.specs.declared.Record.{Record}
+use Rattle.records.specs.declared.Record.the-variants as rec
 
 -- a record passes over some of the bytes that are left, where there are any, and over no more
 pub record Passes (left : ℕ) (r : Record) : Type 0 where

@@ -1,18 +1,16 @@
 -- Integers in decimal: the text of a word, and that the word of a coordinate is read as its decimetres.
-use mathlib.Core.Path.{_≡_, sym, ap, _∙_}
+use mathlib.Core.Path.{_≡_, ap, _∙_}
 use mathlib.Core.List.{_++_}
 use Prim.Native.Nat.{ℕ, suc, _-_, _^_, _≤_, _<_}
 use native.Mathlib.Decide.{decLt}
 use native.Mathlib.Omega.{arith}
 use borrow.Author.Tests.{lt-ltb, le-ltb}
 use lib.ListN.{length}
-use lib.IntN.{pos, _-ℤ_, +ℤ-negℤ-cancel}
 use mir.Syntax.{w32}
 use mir.Val.{toZ}
-use Rattle.job.specs.Fields.{wordOf}
-use Rattle.job.proofs.Signed.{biased-of-word, signed-value}
+use Rattle.job.specs.Fields.{wordOf, decimetres}
+use Rattle.job.proofs.Signed.{biased-of-word, signed-decimetres}
 use Rattle.text.specs.Numerals.{ascii, decimal, signed}
-use Rattle.text.specs.Text.{decimetres}
 use Rattle.text.proofs.Numerals.{decimal-length}
 
 -- a word below 2^31 is its own number
@@ -27,8 +25,7 @@ signed-high w h l = let e : suc (2 ^ 32 - suc w) ≡ 2 ^ 32 - w = omega arith in
 pub word-decimetres : (c : ℕ) → c ≤ 2000000 → toZ w32 (wordOf c) ≡ decimetres c
 word-decimetres c h =
     let e = biased-of-word c h in
-    let v = signed-value (wordOf c) (omega arith) (omega (arith, e)) in
-    sym (+ℤ-negℤ-cancel (toZ w32 (wordOf c)) (pos 1000000)) ∙ ap (λ z. z -ℤ pos 1000000) (sym v ∙ ap pos e)
+    signed-decimetres (wordOf c) (omega arith) (omega (arith, e)) ∙ ap decimetres e
 
 -- a coordinate takes at most eight characters
 pub decimetres-length : (c : ℕ) → c ≤ 2000000 → length (signed (decimetres c)) ≤ 8

@@ -3,5 +3,4 @@ pub mod Numerals
 pub mod Text
 pub mod Listed
 -- what the contracts between speak of: any bytes, record by record
-pub mod Records
 pub mod Listing

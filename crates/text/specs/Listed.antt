@@ -5,7 +5,7 @@ use Prim.Native.Nat.{ℕ, _≤_}
 use lib.ListN.{length, take}
 use Rattle.plan.specs.Writers.{Wrote}
 use Rattle.text.specs.declared.Step.{Step}
-use Rattle.text.specs.Records.{recordOf}
+use Rattle.records.specs.Records.{recordOf}
 use Rattle.text.specs.Listing.{recordText, recordSize}
 
 -- What a writer of the text t makes of the buffer xs: the first bytes of t, as many as xs has room for, stand over the front of xs, the bytes behind

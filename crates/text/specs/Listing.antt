@@ -7,9 +7,9 @@ use mir.Syntax.{w32}
 use mir.Val.{toZ}
 use Rattle.text.specs.Numerals.{ascii}
 use Rattle.text.specs.Text.{headText, routeText, cornerText}
-use Rattle.text.specs.Records.{recordOf}
-use Rattle.text.specs.declared.Record.{Record}
-use Rattle.text.specs.declared.Record.the-variants as rec
+use Rattle.records.specs.Records.{recordOf}
+use Rattle.records.specs.declared.Record.{Record}
+use Rattle.records.specs.declared.Record.the-variants as rec
 
 -- The text of a record. A line ends where the next begins, so its line feed stands with the record after it. The words of a corner are in two's
 -- complement: `toZ w32` is the machine's signed reading of a word.
@@ -17,7 +17,7 @@ unfoldable pub recordText : Record → List ℕ
 recordText (rec.Head h) = headText h
 recordText (rec.Route number meets corners) = ascii "\n" ++ routeText number meets corners
 recordText (rec.Corner x y) = cornerText (toZ w32 x) (toZ w32 y)
-recordText rec.End = ascii "\n"
+recordText (rec.End corners) = ascii "\n"
 recordText rec.Other = []
 
 -- how many of the bytes are passed over: a record's own, or all that are left
@@ -25,7 +25,7 @@ unfoldable pub recordSize : Record → (left : ℕ) → ℕ
 recordSize (rec.Head h) left = 19
 recordSize (rec.Route number meets corners) left = 7
 recordSize (rec.Corner x y) left = 9
-recordSize rec.End left = left
+recordSize (rec.End corners) left = left
 recordSize rec.Other left = left
 
 -- The same of a record that takes r bytes. The second field follows from the first: a reader that goes on behind the record comes to the end.

@@ -3,12 +3,13 @@
 use mathlib.Core.List.{List, _++_, flatMap}
 use Prim.Native.Nat.{ℕ}
 use lib.ListN.{length}
-use lib.IntN.{ℤ, pos, _-ℤ_}
+use lib.IntN.{ℤ}
 use Rattle.network.specs.Plane.{Point}
+use Rattle.job.specs.Fields.{decimetres}
 use Rattle.plan.specs.declared.Head.{Head}
 use Rattle.plan.specs.Plan.{Entry}
-use Rattle.job.specs.declared.Refusal.{Refusal}
-use Rattle.job.specs.Refusal.{refusalNumber, refusalPlace}
+use Rattle.refusal.specs.declared.Refusal.{Refusal}
+use Rattle.refusal.specs.Refusal.{refusalNumber, refusalPlace}
 use Rattle.text.specs.Numerals.{ascii, decimal, signed}
 
 -- ` trench 100 saved 40 pits 6`
@@ -28,10 +29,6 @@ routeText number meets corners =
 -- ` 40,10`, in decimetres
 abbrev pub cornerText : (x y : ℤ) → List ℕ
 cornerText x y = ascii " " ++ signed x ++ ascii "," ++ signed y
-
--- the decimetres of a coordinate, which is held with 1,000,000 added to it
-abbrev pub decimetres : ℕ → ℤ
-decimetres c = pos c -ℤ pos 1000000
 
 -- a corner of a route
 abbrev pub pointText : Point → List ℕ

@@ -1,34 +1,17 @@
 // The text of a plan and of a refusal (document 01, "Listing"). Each piece is written into the rest of the text buffer behind the piece before
 // it. A writer puts as much of its text as there is room for at the front of what it is lent, and answers how many bytes that is.
-use job::Refusal;
 use plan::Head;
+use records::Record;
+use refusal::Refusal;
 ghost use mathlib.Core.Path.{_≡_};
 ghost use mathlib.Core.List.{[], _∷_, _++_};
-ghost use Prim.Native.Nat.{_≤_};
 ghost use lib.ListN.{length, replicate};
 ghost use mir.Syntax.{w32};
 ghost use mir.Val.{toZ};
 ghost use Rattle.text.specs.Numerals.{ascii, decimal, signed};
 ghost use Rattle.text.specs.Text.{figuresText, headText, routeText, cornerText, refusedText, refusalText};
-ghost use Rattle.text.specs.Records.{headBody, decoded, recordOf};
 ghost use Rattle.text.specs.Listing.{recordText, Sized, listingOf};
 ghost use Rattle.text.specs.Listed.{Listed, ListedRecord};
-
-// What stands at a place of a plan: a whole record, or what is none of the four kinds.
-pub enum Record {
-    Head(Head),
-    Route {
-        number: u32,
-        meets: u32,
-        corners: u32,
-    },
-    Corner {
-        x: u32,
-        y: u32,
-    },
-    End,
-    Other,
-}
 
 // How many bytes of a plan were read, and how many of its text were written.
 pub struct Step {
@@ -138,72 +121,9 @@ fn write_refused(text: &mut [u8], number: u64, place: u64) -> usize
 pub fn list_refusal(refusal: Refusal, text: &mut [u8]) -> usize
     ensures { λ n. ⌜ Listed (refusalText refusal) (now (text .entry)) (now (text .exit)) n ⌝ }
 {
-    let number = job::refusal_number(refusal) as u64;
-    let place = job::refusal_place(refusal) as u64;
+    let number = refusal::number(refusal) as u64;
+    let place = refusal::place(refusal) as u64;
     write_refused(text, number, place)
-}
-
-// The head in a body.
-fn head_body(body: &[u8]) -> Head
-    requires { ⌜ 18 ≤ length (now body) ⌝ }
-    ensures { λ r. ⌜ r ≡ headBody (now (body .entry)) ⌝ }
-{
-    Head {
-        job: job::le32(body, 0),
-        runs: job::le16(body, 4),
-        trench: job::le32(body, 6),
-        saved: job::le32(body, 10),
-        pits: job::le16(body, 14),
-        centre: job::le16(body, 16),
-    }
-}
-
-// The record of this kind whose body the bytes begin with.
-fn decode(kind: u8, body: &[u8]) -> Record
-    ensures { λ r. ⌜ r ≡ decoded kind (now (body .entry)) ⌝ }
-{
-    if kind == 0x50 {
-        if body.len() < 18 {
-            return Record::Other;
-        }
-        return Record::Head(head_body(body));
-    }
-    if kind == 0x4E {
-        if body.len() < 6 {
-            return Record::Other;
-        }
-        return Record::Route {
-            number: job::le16(body, 0),
-            meets: job::le16(body, 2),
-            corners: job::le16(body, 4),
-        };
-    }
-    if kind == 0x43 {
-        if body.len() < 8 {
-            return Record::Other;
-        }
-        return Record::Corner {
-            x: job::le32(body, 0),
-            y: job::le32(body, 4),
-        };
-    }
-    if kind == 0x5A {
-        if body.len() < 2 {
-            return Record::Other;
-        }
-        return Record::End;
-    }
-    Record::Other
-}
-
-// The record that the bytes begin with.
-pub fn first_record(plan: &[u8]) -> Record
-    ensures { λ r. ⌜ r ≡ recordOf (now (plan .entry)) ⌝ }
-{
-    if plan.len() == 0 {
-        return Record::Other;
-    }
-    decode(plan[0], &plan[1..])
 }
 
 // How many bytes a record takes; what ends a listing takes all that are left.
@@ -218,7 +138,7 @@ pub fn record_size(found: Record, left: usize) -> usize
             corners,
         } => 7,
         Record::Corner { x, y } => 9,
-        Record::End => left,
+        Record::End(_) => left,
         Record::Other => left,
     }
 }
@@ -234,7 +154,7 @@ fn write_record(text: &mut [u8], found: Record) -> usize
             corners,
         } => write_route(text, number, meets, corners),
         Record::Corner { x, y } => write_corner(text, x, y),
-        Record::End => write_byte(text, b'\n'),
+        Record::End(_) => write_byte(text, b'\n'),
         Record::Other => 0,
     }
 }
@@ -243,7 +163,7 @@ fn write_record(text: &mut [u8], found: Record) -> usize
 fn list_record(plan: &[u8], text: &mut [u8]) -> Step
     ensures { λ s. ⌜ ListedRecord (now (plan .entry)) (now (text .entry)) (now (text .exit)) s ⌝ }
 {
-    let found = first_record(plan);
+    let found = records::first_record(plan);
     let written = write_record(text, found);
     Step {
         read: record_size(found, plan.len()),

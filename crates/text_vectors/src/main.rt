@@ -1,8 +1,8 @@
 // Prints the listing of each plan on standard input, then the text of every refusal. A line of the input is a label, a space and the plan's bytes
 // in hexadecimal. It prints the label and the length of the text, the text, a bar, and then as much of the text as 40 bytes have room for, and a bar.
-use job::Refusal;
 use libc::STDIN_FILENO;
 use libc::STDOUT_FILENO;
+use refusal::Refusal;
 
 fn print(words: &[u8]) {
     io::write_all(STDOUT_FILENO, words);
@@ -55,7 +55,10 @@ fn refusal(nth: u32, place: usize) -> Refusal {
         7 => Refusal::WrongNumber(place),
         8 => Refusal::OutOfRange(place),
         9 => Refusal::TooManyRuns(place),
-        _ => Refusal::NoStar,
+        10 => Refusal::NoStar,
+        11 => Refusal::NotWhole(place),
+        12 => Refusal::NoTurn(place),
+        _ => Refusal::Miscounted(place),
     }
 }
 
@@ -66,7 +69,7 @@ fn list_refusal(refusal: Refusal) {
 }
 
 fn list_refusals(place: usize) {
-    for nth in 1..11 {
+    for nth in 1..14 {
         list_refusal(refusal(nth, place));
     }
 }

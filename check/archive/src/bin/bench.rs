@@ -1,6 +1,6 @@
-//! The benchmark: the archive's planner, two C planners and the independent planner on the same jobs, in one run. With
-//! the program `table_rounds`, filling and tracing alone are timed as well. With `--limit` it is a test: exit status 1 where
-//! the proved code takes more than so many times as long as C.
+//! The benchmark: the archive's planner, two C planners and the independent planner on the same jobs, and the archive's reader
+//! and the plain C reader on the same plan books, in one run. With the program `table_rounds`, filling and tracing alone are timed
+//! as well. With `--limit` it is a test: exit status 1 where the proved code takes more than so many times as long as C.
 
 use std::hint::black_box;
 use std::path::Path;
@@ -12,14 +12,15 @@ use trench_archive::ended;
 use trench_archive::program::table_figure;
 use trench_check::book::job_bytes;
 use trench_check::generate::spread_star;
-use trench_check::plan_book::PlanBook;
+use trench_check::job::{MOST_RUNS, Point};
+use trench_check::plan_book::{MOST_CORNERS, PlanBook, RouteRecord};
 use trench_check::planner::plan_surveyed;
 use trench_check::random::Random;
 use trench_check::refusal::{PLAN_ROOM, surveyed};
 
 const USAGE: &str = "\
-usage: bench [PROGRAM]                  times the planners, and PROGRAM, which is `table_rounds`, against C
-       bench --limit FACTOR [PROGRAM]   fails where the planner or PROGRAM takes more than FACTOR times as long as C";
+usage: bench [PROGRAM]                  times planners and readers, and PROGRAM, which is `table_rounds`, against C
+       bench --limit FACTOR [PROGRAM]   fails where planner, reader or PROGRAM takes more than FACTOR times as long as C";
 
 const RUNS: [usize; 9] = [2, 3, 4, 6, 8, 12, 16, 24, 32];
 /// Jobs of each size.
@@ -42,6 +43,9 @@ const LIMIT_ROUNDS: usize = 250;
 const LIMIT_TABLES: usize = 3;
 const LIMIT_MANY: u32 = 501;
 const LIMIT_REPEATS: usize = 30;
+/// Bytes of plan books that are read for one measurement of a reader, the same book over and over: about 100 microseconds' work.
+const READ_BYTES: usize = 100_000;
+
 /// Where a ratio is above the limit, measuring goes on until it took so many times as long.
 const PATIENCE: u32 = 10;
 
@@ -65,6 +69,14 @@ Filling the table and tracing the walk alone, for the first 8 of the jobs of 32 
 `proved` is the program crates/table_rounds, which calls the planner's `fill` and `trace_of` and is timed from outside, as a
 process; `C` and `tuned` are the same work by bench/table.c, called in the benchmark. A round is what 2,001 rounds take more than 1, by the
 quickest of 40 runs of each, divided by 2,000, in processor time. They take turns, and neither clears the table between rounds.";
+
+const READING_NOTE: &str = "\
+Reading a plan book, in microseconds a book: the quickest of 400 rounds, in which both readers take turns.
+`proved` is the archive's reader; `C` is bench/read.c, the same reader in plain C, by cc -O3. `trench_read` is reading alone. `every
+corner` is a caller's loop in C over the whole book: trench_places, then trench_route for each route and trench_corner for each corner, up
+to the first that is not there.
+samples/full.plan is the plan of 32 runs on 64 columns and 64 rows; the longest book is made up, and no book that is read is longer.
+Wanted is a ratio of at most 1: that reading takes no longer than the same reader in plain C.";
 
 fn main() -> ExitCode {
     let words: Vec<String> = std::env::args().skip(1).collect();
@@ -102,6 +114,8 @@ fn benchmark(program: &str) -> bool {
             at(from).iter().zip(at(to)).map(|(less, more)| format!("x {:.1}", more / less)).collect();
         println!("| {from} | {to} | {} |", factors.join(" | "));
     }
+    println!();
+    print_readings();
     println!();
     if Path::new(program).is_file() {
         tables(program);
@@ -226,7 +240,7 @@ fn timed(books: &[Vec<u8>], calls: usize, mut call: impl FnMut(&[u8])) -> f64 {
 trait Contest {
     /// Measures once more, and keeps the quickest times so far.
     fn round(&mut self);
-    /// Microseconds: the proved code's, and those of C and of tuned C.
+    /// Microseconds: the proved code's, and those of C and of tuned C; where there is no tuned C, those of C again.
     fn times(&self) -> [f64; 3];
     fn name(&self) -> String;
 
@@ -239,6 +253,14 @@ trait Contest {
     fn ratio_to_tuned(&self) -> f64 {
         self.times()[0] / self.times()[2]
     }
+}
+
+/// The least and the greatest ratio of some contests.
+fn range<T: Contest>(contests: &[T], ratio: fn(&T) -> f64) -> String {
+    let ratios = contests.iter().map(ratio);
+    let (least, most) =
+        ratios.fold((f64::INFINITY, 0.0_f64), |(least, most), ratio| (least.min(ratio), most.max(ratio)));
+    format!("{least:.2} to {most:.2} times")
 }
 
 /// Planning jobs of one size, against C with clearing.
@@ -281,6 +303,94 @@ impl Contest for Filling<'_> {
     }
 }
 
+/// Loops over a plan book in C, by the archive's reader and by the plain one.
+#[allow(unsafe_code)]
+mod loops {
+    type Loop = unsafe extern "C" fn(*const u8, usize, u32) -> u32;
+
+    unsafe extern "C" {
+        fn archive_read_rounds(book: *const u8, book_len: usize, rounds: u32) -> u32;
+        fn archive_ask_rounds(book: *const u8, book_len: usize, rounds: u32) -> u32;
+        fn plain_read_rounds(book: *const u8, book_len: usize, rounds: u32) -> u32;
+        fn plain_ask_rounds(book: *const u8, book_len: usize, rounds: u32) -> u32;
+    }
+
+    /// Reads a book so many times, with every corner or without, by the proved reader or the plain one: a sum of what was read.
+    pub fn sum(proved: bool, corners: bool, book: &[u8], rounds: u32) -> u32 {
+        let read: Loop = match (proved, corners) {
+            (true, false) => archive_read_rounds,
+            (true, true) => archive_ask_rounds,
+            (false, false) => plain_read_rounds,
+            (false, true) => plain_ask_rounds,
+        };
+        // SAFETY: the functions read `book.len()` bytes of book, which are alive, and write nothing of the caller's.
+        unsafe { read(book.as_ptr(), book.len(), rounds) }
+    }
+}
+
+/// Reading one plan book, with every corner or without, against the plain reader.
+struct Reading {
+    name: &'static str,
+    book: Vec<u8>,
+    corners: bool,
+    quickest: [f64; 2],
+}
+
+impl Contest for Reading {
+    fn round(&mut self) {
+        let rounds = (READ_BYTES / self.book.len()).max(1);
+        let timed = [true, false].map(|proved| {
+            let start = Instant::now();
+            let sum = black_box(loops::sum(proved, self.corners, black_box(&self.book), rounds as u32));
+            (sum, start.elapsed().as_secs_f64() * 1e6 / rounds as f64)
+        });
+        assert_eq!(timed[0].0, timed[1].0, "what both read");
+        assert!(timed[0].0 as i32 > 0, "a plan is read");
+        keep(&mut self.quickest, timed.map(|(_, time)| time));
+    }
+
+    fn times(&self) -> [f64; 3] {
+        [self.quickest[0], self.quickest[1], self.quickest[1]]
+    }
+
+    fn name(&self) -> String {
+        let what = if self.corners { "every corner" } else { "trench_read" };
+        format!("{what} on {}", self.name)
+    }
+}
+
+/// Both books, read without their corners or with them.
+fn readings(corners: bool) -> [Reading; 2] {
+    let of = |(name, book)| Reading { name, book, corners, quickest: [f64::INFINITY; 2] };
+    let full = include_bytes!("../../../../samples/full.plan");
+    [("samples/full.plan", full.to_vec()), ("the longest book", longest_book())].map(of)
+}
+
+/// A book of 32 routes with 127 corners each, all of them stairs.
+fn longest_book() -> Vec<u8> {
+    let stairs: Vec<Point> = (0..MOST_CORNERS as i32).map(|k| Point::new((k + 1) / 2, k / 2)).collect();
+    let route = |i| RouteRecord { run: i as u16 + 1, meets: 0, count: MOST_CORNERS as u16, corners: stairs.clone() };
+    let routes: Vec<RouteRecord> = (0..MOST_RUNS).map(route).collect();
+    let (runs, total) = (MOST_RUNS as u16, (MOST_RUNS * MOST_CORNERS) as u16);
+    PlanBook { job: 7, runs, trench: 126, saved: 126 * 31, pits: 127, centre: 1, routes, total }.bytes()
+}
+
+/// Times both readers on both books.
+fn print_readings() {
+    println!("{READING_NOTE}\n");
+    println!("| what | book | bytes | proved | C | proved / C |");
+    println!("|---|---|---:|---:|---:|---:|");
+    for corners in [false, true] {
+        let mut contests = readings(corners);
+        (0..ROUNDS).for_each(|_| contests.iter_mut().for_each(Contest::round));
+        for reading in &contests {
+            let ([proved, in_c], ratio) = (reading.quickest, reading.ratio());
+            let what = if corners { "every corner" } else { "`trench_read`" };
+            println!("| {what} | {} | {} | {proved:.3} | {in_c:.3} | {ratio:.2} |", reading.name, reading.book.len());
+        }
+    }
+}
+
 /// Measures so many rounds of each contest, and goes on with those above the limit; whether none is above it then.
 fn settle(contests: &mut [impl Contest], rounds: usize, limit: f64) -> bool {
     let start = Instant::now();
@@ -293,13 +403,13 @@ fn settle(contests: &mut [impl Contest], rounds: usize, limit: f64) -> bool {
     for contest in &above {
         let ([proved, in_c, _], name, ratio) = (contest.times(), contest.name(), contest.ratio());
         println!(
-            "speed: {name} takes {proved:.2} microseconds and C {in_c:.2}: {ratio:.2} times, and {limit} is the limit"
+            "speed: {name} takes {proved:.3} microseconds and C {in_c:.3}: {ratio:.2} times, and {limit} is the limit"
         );
     }
     above.is_empty()
 }
 
-/// Whether planning, and filling and tracing alone, take at most so many times as long as C.
+/// Whether planning, filling and tracing alone, and reading take at most so many times as long as C.
 fn limited(limit: f64, program: &str) -> bool {
     let planning = |&runs: &usize| {
         let (books, out) = (books(runs), vec![0; PLAN_ROOM]);
@@ -307,14 +417,7 @@ fn limited(limit: f64, program: &str) -> bool {
     };
     let mut sizes: Vec<Planning> = RUNS.iter().map(planning).collect();
     let mut good = settle(&mut sizes, LIMIT_ROUNDS, limit);
-    let range = |ratio: fn(&Planning) -> f64| {
-        let (least, most) = sizes
-            .iter()
-            .map(ratio)
-            .fold((f64::INFINITY, 0.0_f64), |(least, most), ratio| (least.min(ratio), most.max(ratio)));
-        format!("{least:.2} to {most:.2} times")
-    };
-    let (plain, tuned) = (range(Contest::ratio), range(Contest::ratio_to_tuned));
+    let (plain, tuned) = (range(&sizes, Contest::ratio), range(&sizes, Contest::ratio_to_tuned));
     let filling = if Path::new(program).is_file() {
         let jobs = books(32).into_iter().take(LIMIT_TABLES);
         let mut tables = [Filling(jobs.map(|job| Table::new(program, job, LIMIT_MANY)).collect())];
@@ -325,5 +428,11 @@ fn limited(limit: f64, program: &str) -> bool {
         format!("filling and tracing alone is not timed ({})", missing(program))
     };
     println!("speed, for 2 to 32 runs: trench_plan {plain} C, {tuned} tuned C; {filling}");
+    let [alone, with_corners] = [false, true].map(|corners| {
+        let mut contests = readings(corners);
+        good &= settle(&mut contests, LIMIT_ROUNDS, limit);
+        range(&contests, Contest::ratio)
+    });
+    println!("speed, for plans of 32 routes: trench_read {alone} C, with every corner {with_corners} C");
     good
 }

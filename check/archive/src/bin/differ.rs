@@ -1,26 +1,33 @@
-//! Compares the archive's planner, or a listing program, or the table program, with the independent reading on many jobs. Exit
-//! status 1 where anything differs.
+//! Compares the archive's planner and reader, or a listing program, or the table program, with the independent reading on many
+//! jobs and plan books. Exit status 1 where anything differs.
 
 use std::process::ExitCode;
 use std::time::{Instant, SystemTime, UNIX_EPOCH};
 
-use trench_archive::call::{Against, Function, Guarded, frame_of};
+use trench_archive::call::{Against, Function, Guarded, GuardedReader, Reader, frame_of};
 use trench_archive::ended;
 use trench_archive::program::{printed_by, table_figure};
-use trench_check::compare::{Report, case, try_cases, try_listing};
+use trench_check::book_cases::book_case;
+use trench_check::compare::{case, try_cases, try_listing};
 use trench_check::planner::plan_surveyed;
+use trench_check::read_back::{try_books, try_plan_listing};
 use trench_check::refusal::surveyed;
+use trench_check::report::{Report, Subject};
 
 const USAGE: &str = "\
-usage: differ [--table] JOBS          so many jobs of the fixed seed, and as many of a fresh one, which is printed
-       differ [--table] SEED FROM TO  the jobs FROM to TO - 1 of a seed; each is named before it is tried
-       differ --listing PROGRAM JOBS  the same jobs for a program that reads a job book and prints its listing
-       differ --rounds PROGRAM JOBS   the same jobs for the program `table_rounds`
---table tries the plain C planner in place of the archive's";
+usage: differ COUNT                          so many jobs, and then plan books, of the fixed seed, and as many of a fresh one,
+                                             which is printed
+       differ SEED FROM TO                   the jobs FROM to TO - 1 of a seed; each is named before it is tried
+       differ --plans SEED FROM TO           likewise the plan books
+       differ --table COUNT                  jobs for the plain C planner in place of the archive's
+       differ --table SEED FROM TO           likewise
+       differ --listing PROGRAM COUNT        the same jobs for a program that reads a job book and prints its plan's listing
+       differ --plan-listing PROGRAM COUNT   the same plan books for a program that reads a plan book and prints its listing
+       differ --rounds PROGRAM COUNT         the same jobs for the program `table_rounds`";
 
 /// The seed that every run starts with.
 const FIXED_SEED: u64 = 1;
-/// From this number of jobs on, every refusal and every number of runs must have been tried.
+/// From this number of books on, every refusal and every number of runs or routes must have been tried.
 const MANY: u64 = 5_000;
 
 fn main() -> ExitCode {
@@ -28,9 +35,13 @@ fn main() -> ExitCode {
     let words: Vec<&str> = words.iter().map(String::as_str).collect();
     let good = match words[..] {
         ["--listing", program, jobs] => numbers(&[jobs]).map(|n| seeds(n[0], |seed, jobs| listed(program, seed, jobs))),
+        ["--plan-listing", program, plans] => {
+            numbers(&[plans]).map(|n| seeds(n[0], |seed, plans| plans_listed(program, seed, plans)))
+        }
         ["--rounds", program, jobs] => numbers(&[jobs]).map(|n| seeds(n[0], |seed, jobs| filled(program, seed, jobs))),
-        ["--table", ref rest @ ..] => numbers(rest).and_then(|numbers| compared(Function::Table, &numbers)),
-        ref all => numbers(all).and_then(|numbers| compared(Function::Archive, &numbers)),
+        ["--table", ref rest @ ..] => numbers(rest).and_then(|numbers| planned(Function::Table, &numbers)),
+        ["--plans", seed, from, to] => numbers(&[seed, from, to]).map(|n| plan_by_plan(n[0], n[1], n[2])),
+        ref all => numbers(all).and_then(|numbers| compared(&numbers)),
     };
     ended(good, USAGE)
 }
@@ -39,7 +50,14 @@ fn numbers(words: &[&str]) -> Option<Vec<u64>> {
     words.iter().map(|word| word.parse().ok()).collect()
 }
 
-fn compared(function: Function, numbers: &[u64]) -> Option<bool> {
+/// Compares the planner, and where a number of books is given the reader too.
+fn compared(numbers: &[u64]) -> Option<bool> {
+    let good = planned(Function::Archive, numbers)?;
+    let read = numbers.len() > 1 || seeds(numbers[0], many_plans);
+    Some(good && read)
+}
+
+fn planned(function: Function, numbers: &[u64]) -> Option<bool> {
     match *numbers {
         [jobs] => Some(seeds(jobs, |seed, jobs| many(function, seed, jobs))),
         [seed, from, to] => Some(one_by_one(function, seed, from, to)),
@@ -47,15 +65,15 @@ fn compared(function: Function, numbers: &[u64]) -> Option<bool> {
     }
 }
 
-/// Tries so many jobs of the fixed seed, and of a fresh one; whether all went well.
-fn seeds(jobs: u64, attempt: impl Fn(u64, u64) -> Report) -> bool {
+/// Tries so many books of the fixed seed, and of a fresh one; whether all went well.
+fn seeds(books: u64, attempt: impl Fn(u64, u64) -> Report) -> bool {
     let now = SystemTime::now().duration_since(UNIX_EPOCH).expect("a clock after 1970");
     let mut good = true;
     for (name, seed) in [("fixed", FIXED_SEED), ("fresh", now.as_nanos() as u64)] {
-        println!("{name} seed {seed}, {jobs} jobs:");
+        println!("{name} seed {seed}, {books} books:");
         let start = Instant::now();
-        let mut report = attempt(seed, jobs);
-        if jobs >= MANY {
+        let mut report = attempt(seed, books);
+        if books >= MANY {
             report.faults.extend(report.untried().into_iter().map(|what| format!("seed {seed} never tried {what}")));
         }
         println!("{report}; {:.1} s", start.elapsed().as_secs_f64());
@@ -64,20 +82,29 @@ fn seeds(jobs: u64, attempt: impl Fn(u64, u64) -> Report) -> bool {
     good
 }
 
-/// Tries the first jobs of a seed, on two threads at once.
+/// Tries the first jobs of a seed.
 fn many(function: Function, seed: u64, jobs: u64) -> Report {
-    let mut report = Report::default();
+    on_two_threads(|from| try_cases(&mut Guarded::new(function, Against::Back), seed, from, jobs, 2))
+}
+
+/// Tries the first plan books of a seed.
+fn many_plans(seed: u64, plans: u64) -> Report {
+    on_two_threads(|from| try_books(&mut GuardedReader::new(Reader::Archive, Against::Back), seed, from, plans, 2))
+}
+
+/// Has the even and the odd books tried at once.
+fn on_two_threads(share: impl Fn(u64) -> Report + Sync) -> Report {
     std::thread::scope(|scope| {
-        let share = |from| move || try_cases(&mut Guarded::new(function, Against::Back), seed, from, jobs, 2);
-        let threads = [scope.spawn(share(0)), scope.spawn(share(1))];
-        threads.into_iter().for_each(|thread| report.add(thread.join().expect("the comparison itself does not fail")));
-    });
-    report
+        let odd = scope.spawn(|| share(1));
+        let mut report = share(0);
+        report.add(odd.join().expect("the comparison itself does not fail"));
+        report
+    })
 }
 
 /// Has a program list the first jobs of a seed.
 fn listed(program: &str, seed: u64, jobs: u64) -> Report {
-    let mut report = Report::default();
+    let mut report = Report::of(Subject::Jobs);
     for n in 0..jobs {
         let before = report.faults.len();
         let case = case(seed, n);
@@ -88,9 +115,22 @@ fn listed(program: &str, seed: u64, jobs: u64) -> Report {
     report
 }
 
+/// Has a program list the first plan books of a seed.
+fn plans_listed(program: &str, seed: u64, plans: u64) -> Report {
+    let mut report = Report::of(Subject::Plans);
+    for n in 0..plans {
+        let before = report.faults.len();
+        let case = book_case(seed, n);
+        let printed = printed_by(program, &case.bytes).unwrap_or_else(|error| panic!("{program}: {error}"));
+        try_plan_listing(&case, &printed, &mut report);
+        report.faults[before..].iter_mut().for_each(|fault| *fault = format!("seed {seed} book {n}: {fault}"));
+    }
+    report
+}
+
 /// Has a program fill and trace the tables of the first jobs of a seed: it must save what the independent planner saves.
 fn filled(program: &str, seed: u64, jobs: u64) -> Report {
-    let mut report = Report::default();
+    let mut report = Report::of(Subject::Jobs);
     for n in 0..jobs {
         let case = case(seed, n);
         let due = match surveyed(&case.bytes) {
@@ -110,17 +150,27 @@ fn filled(program: &str, seed: u64, jobs: u64) -> Report {
         if saved != due {
             report.faults.push(format!("seed {seed} job {n}: {}: {saved:?} is saved, and {due:?} is due", case.what));
         }
-        report.jobs += 1;
+        report.books += 1;
         report.calls += usize::from(frame.is_some());
     }
     report
 }
 
 fn one_by_one(function: Function, seed: u64, from: u64, to: u64) -> bool {
-    let mut report = Report::default();
+    let mut report = Report::of(Subject::Jobs);
     for n in from..to {
         println!("seed {seed} job {n}: {}", case(seed, n).what);
         report.add(try_cases(&mut Guarded::new(function, Against::Back), seed, n, n + 1, 1));
+    }
+    println!("{report}");
+    told(&report)
+}
+
+fn plan_by_plan(seed: u64, from: u64, to: u64) -> bool {
+    let mut report = Report::of(Subject::Plans);
+    for n in from..to {
+        println!("seed {seed} book {n}: {}", book_case(seed, n).what);
+        report.add(try_books(&mut GuardedReader::new(Reader::Archive, Against::Back), seed, n, n + 1, 1));
     }
     println!("{report}");
     told(&report)

@@ -1,5 +1,5 @@
-//! Makes the files of `samples/` anew: for each typed job its job book and its listing, and the damaged books with theirs. The
-//! plans listed are the archive's.
+//! Makes the files of `samples/` anew: for each typed job its job book, its plan book and its listing, and the damaged books of
+//! both kinds with their listings. The plans are the archive's; the damaged plan books are listed by the independent reader.
 
 use std::fs;
 use std::path::Path;
@@ -7,9 +7,12 @@ use std::process::ExitCode;
 
 use trench_archive::call::{Function, plan};
 use trench_check::book::job_bytes;
+use trench_check::book_cases::{count, route};
 use trench_check::job::{Job, Point, Run};
 use trench_check::listing;
 use trench_check::plan_book::PlanBook;
+use trench_check::planner;
+use trench_check::read_back::listed;
 use trench_check::refusal::{PLAN_ROOM, verdict};
 use trench_check::text;
 
@@ -47,31 +50,44 @@ fn make(folder: &Path) -> Result<usize, String> {
         write(&folder.join(format!("refused-{name}")), &bytes).map_err(failed)?;
         made += 1;
     }
+    for (name, plan) in damaged_plans() {
+        write_plan(&folder.join(format!("refused-{name}")), &plan).map_err(failed)?;
+        made += 1;
+    }
     Ok(made)
 }
 
-/// Writes a job book and its listing beside each other.
+/// Writes a job book, and beside it its plan book and its listing, or the listing of its refusal.
 fn write(path: &Path, job: &[u8]) -> std::io::Result<()> {
     let mut out = vec![0; PLAN_ROOM];
     let answer = plan(Function::Archive, job, &mut out);
-    let listed = match (usize::try_from(answer), verdict(job)) {
-        (Ok(length), _) => listing::of_plan(&PlanBook::read(&out[..length]).expect("a plan book")),
-        (Err(_), Err(refusal)) => listing::of_refusal(refusal),
-        (Err(_), Ok(_)) => panic!("{}: the archive refuses a right job with {answer}", path.display()),
-    };
     fs::write(path.with_extension("job"), job)?;
-    fs::write(path.with_extension("lst"), listed)
+    match (usize::try_from(answer), verdict(job)) {
+        (Ok(length), _) => write_plan(path, &out[..length]),
+        (Err(_), Err(refusal)) => fs::write(path.with_extension("lst"), listing::of_refusal(refusal)),
+        (Err(_), Ok(_)) => panic!("{}: the archive refuses a right job with {answer}", path.display()),
+    }
+}
+
+/// Writes a plan book and its listing beside each other.
+fn write_plan(path: &Path, plan: &[u8]) -> std::io::Result<()> {
+    fs::write(path.with_extension("plan"), plan)?;
+    fs::write(path.with_extension("lst"), listed(plan))
+}
+
+/// The job of document 01's listing.
+fn job_7() -> Job {
+    let runs = vec![run(1, (0, 0), (40, 30)), run(2, (0, 10), (40, 10)), run(3, (20, 20), (20, 50))];
+    Job { number: 7, runs }
+}
+
+fn run(number: u16, first: (i32, i32), second: (i32, i32)) -> Run {
+    Run { number, first: Point::new(first.0, first.1), second: Point::new(second.0, second.1) }
 }
 
 /// The job of document 01's listing, and a blank one, damaged in each way that has a number of its own.
 fn damaged() -> Vec<(&'static str, Vec<u8>)> {
-    let run = |number: u16, first: (i32, i32), second: (i32, i32)| Run {
-        number,
-        first: Point::new(first.0, first.1),
-        second: Point::new(second.0, second.1),
-    };
-    let runs = vec![run(1, (0, 0), (40, 30)), run(2, (0, 10), (40, 10)), run(3, (20, 20), (20, 50))];
-    let job = Job { number: 7, runs };
+    let job = job_7();
     let whole = job_bytes(&job);
     let with = |change: &dyn Fn(&mut Job)| {
         let mut changed = job.clone();
@@ -98,5 +114,50 @@ fn damaged() -> Vec<(&'static str, Vec<u8>)> {
         ("07-number", with(&|job| job.runs[2].number = 2)),
         ("08-coordinate", with(&|job| job.runs[1].second.x = 1_000_001)),
         ("09-too-many", with(&|job| job.runs = (1..=33).map(|n| run(n, (0, 0), (i32::from(n), 1))).collect())),
+    ]
+}
+
+/// The plan of document 01's listing, of which there is only one, damaged in each way that has a number and a place of its own.
+/// Its routes stand at 19, 62 and 87, its end at 112.
+fn damaged_plans() -> Vec<(&'static str, Vec<u8>)> {
+    let job = job_7();
+    let plan = PlanBook::of(&job, &planner::plan(&job).expect("a star"));
+    let whole = plan.bytes();
+    let with = |change: &dyn Fn(&mut PlanBook)| {
+        let mut changed = plan.clone();
+        change(&mut changed);
+        changed.bytes()
+    };
+    let put_in = |place: usize, more: &[u8]| [&whole[..place], more, &whole[place..]].concat();
+    let stairs = |corners: i32| (0..corners).map(|k| Point::new((k + 1) / 2, k / 2)).collect();
+    let one_too_many = |book: &mut PlanBook| {
+        book.routes = (1..=33).map(|number| route(number, 0, stairs(2))).collect();
+        count(book);
+    };
+    let too_long = |book: &mut PlanBook| {
+        book.routes[0] = route(1, 2, stairs(128));
+        count(book);
+    };
+    vec![
+        ("12-empty", Vec::new()),
+        ("12-cut", whole[..60].to_vec()),
+        ("12-no-end", whole[..112].to_vec()),
+        ("12-kind", [&whole[..62], &[0x52], &whole[63..]].concat()),
+        ("12-no-head", whole[19..].to_vec()),
+        ("12-second-head", put_in(62, &whole[..19])),
+        ("12-corner-first", put_in(19, &whole[26..35])),
+        ("12-after-end", put_in(115, &[0])),
+        ("12-33-routes", with(&one_too_many)),
+        ("12-128-corners", with(&too_long)),
+        ("12-job-book", job_bytes(&job)),
+        ("08-corner", with(&|book| book.routes[1].corners[1].x = 1_000_001)),
+        ("13-twice", with(&|book| book.routes[1].corners[1] = Point::new(0, 10))),
+        ("13-sloped", with(&|book| book.routes[0].corners[2] = Point::new(40, 20))),
+        ("13-straight-on", with(&|book| book.routes[0].corners[2] = Point::new(0, 30))),
+        ("13-back", with(&|book| book.routes[0].corners[2] = Point::new(0, 0))),
+        ("14-runs", with(&|book| book.runs = 4)),
+        ("14-corners", with(&|book| book.routes[1].count = 3)),
+        ("14-no-corner", with(&|book| book.routes[2] = route(3, 1, Vec::new()))),
+        ("14-total", with(&|book| book.total = 9)),
     ]
 }

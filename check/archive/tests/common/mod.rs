@@ -1,16 +1,18 @@
-//! What the tests of C programs share: compiling, running, and the samples.
+//! What the tests share: compiling and running C programs, the samples, and comparing in guarded memory.
 
 #![allow(dead_code)]
 
 pub mod svg;
 
 use std::io::Write;
+use std::os::unix::process::ExitStatusExt;
 use std::path::{Path, PathBuf};
 use std::process::{Command, Output, Stdio};
 
 use trench_archive::call::{Function, plan};
 use trench_check::plan_book::PlanBook;
 use trench_check::refusal::PLAN_ROOM;
+use trench_check::report::Report;
 
 /// The repository's root.
 pub fn root() -> PathBuf {
@@ -85,4 +87,20 @@ pub fn planned(job: &[u8]) -> Result<PlanBook, i32> {
     let answer = plan(Function::Archive, job, &mut out);
     let length = usize::try_from(answer).map_err(|_| answer)?;
     Ok(PlanBook::read(&out[..length]).expect("a plan book"))
+}
+
+/// Runs one of the ignored tests of this program in a process of its own, which an access of an inaccessible page ends.
+pub fn assert_ends_the_process(name: &str) {
+    const SEGMENT_VIOLATION: i32 = 11;
+    let mut command = Command::new(std::env::current_exe().expect("this program"));
+    let output = command.args(["--ignored", "--exact", name]).output().expect("it runs");
+    assert_eq!(output.status.signal(), Some(SEGMENT_VIOLATION), "{name}");
+}
+
+/// Compares in eight threads at once, each with a share of its own.
+pub fn assert_faultless_in_threads(share: impl Fn(u64) -> Report + Copy + Send + 'static) {
+    let threads: Vec<_> = (0..8).map(|from| std::thread::spawn(move || share(from))).collect();
+    for thread in threads {
+        assert_eq!(thread.join().expect("the comparison itself does not fail").faults, Vec::<String>::new());
+    }
 }

@@ -1,0 +1,283 @@
+//! Plan books to try a reader with: planned ones, made-up ones that no planner would write, damaged ones, and bytes with no
+//! design.
+
+use crate::book::{CORNER, END, PLAN_HEAD, ROUTE};
+use crate::book_damage;
+use crate::generate::{self, KINDS};
+use crate::job::{FAR, Job, MOST_RUNS, Point};
+use crate::plan_book::{CORNER_LENGTH, END_LENGTH, HEAD_LENGTH, MOST_CORNERS, PlanBook, ROUTE_LENGTH, RouteRecord};
+use crate::planner;
+use crate::random::Random;
+use crate::refusal::Refusal;
+
+/// What a plan book was made to be.
+#[derive(Clone, Copy, Debug, PartialEq, Eq)]
+pub enum Made {
+    /// Accepted.
+    Whole,
+    /// Refused in this way.
+    Refused(Refusal),
+    /// Whatever reading it gives.
+    Anyhow,
+}
+
+/// A plan book to try.
+#[derive(Clone, Debug)]
+pub struct BookCase {
+    /// The bytes.
+    pub bytes: Vec<u8>,
+    /// What is due by the way the book was made.
+    pub made: Made,
+    /// What kind of book it is.
+    pub what: String,
+}
+
+/// Whole books that every comparison starts with: routes, corners of each, the greatest coordinate, and what stands in every
+/// other field.
+const SPECIAL: [(usize, usize, i32, u32); 7] = [
+    (0, 0, 0, 0),
+    (0, 0, 0, u32::MAX),
+    (1, 1, FAR, 0),
+    (1, MOST_CORNERS, FAR, 1),
+    (MOST_RUNS, 1, FAR, u32::MAX),
+    (MOST_RUNS, MOST_CORNERS, FAR, u32::MAX),
+    (MOST_RUNS, 2, 1, 0x0102_0304),
+];
+
+/// The n-th plan book of a seed. The first are special ones, the same for every seed.
+pub fn book_case(seed: u64, n: u64) -> BookCase {
+    let anyhow = |what: &str, bytes: Vec<u8>| BookCase { bytes, made: Made::Anyhow, what: what.to_string() };
+    let whole = |what: String, book: PlanBook| BookCase { bytes: book.bytes(), made: Made::Whole, what };
+    if let Some(&(routes, corners, far, figure)) = SPECIAL.get(n as usize) {
+        return whole(format!("{routes} routes of {corners} corners"), squares(routes, corners, far, figure));
+    }
+    let n = n - SPECIAL.len() as u64;
+    if n < 256 {
+        return anyhow("one byte", vec![n as u8]);
+    }
+    let mut random = Random::nth(seed, n);
+    let (turn, round) = (n % 20, (n / 20) as usize);
+    match turn {
+        0 | 1 => whole("planned".to_string(), planned(&mut random)),
+        2..=6 => {
+            let routes = (5 * round + turn as usize) % (MOST_RUNS + 1);
+            whole(format!("made up, {routes} routes"), made_up(&mut random, routes))
+        }
+        7..=13 => {
+            let way = (round * 7 + turn as usize - 7) % book_damage::WAYS;
+            let damaged = book_damage::damaged(&mut random, way);
+            let made = Made::Refused(damaged.refusal);
+            BookCase { bytes: damaged.bytes, made, what: damaged.what.to_string() }
+        }
+        14 | 15 => anyhow("touched book", touched(&mut random)),
+        16..=18 => anyhow("any records", any_records(&mut random)),
+        _ => anyhow("noise", noise(&mut random)),
+    }
+}
+
+/// A whole book with so many routes of so many corners, all of them corners of one square, and with this number in each field
+/// that counts nothing.
+fn squares(routes: usize, corners: usize, far: i32, figure: u32) -> PlanBook {
+    let side = |k: usize| if k % 4 < 2 { -far } else { far };
+    let around: Vec<Point> = (0..corners).map(|k| Point::new(side(k), side(k + 1))).collect();
+    let half = figure as u16;
+    let routes: Vec<RouteRecord> = (0..routes).map(|_| route(half, half, around.clone())).collect();
+    let mut book =
+        PlanBook { job: figure, runs: 0, trench: figure, saved: figure, pits: half, centre: half, routes, total: 0 };
+    count(&mut book);
+    book
+}
+
+/// A route of these corners, with its count.
+pub fn route(run: u16, meets: u16, corners: Vec<Point>) -> RouteRecord {
+    RouteRecord { run, meets, count: corners.len() as u16, corners }
+}
+
+/// Sets every count to what it counts.
+pub fn count(book: &mut PlanBook) {
+    book.runs = book.routes.len() as u16;
+    book.routes.iter_mut().for_each(|route| route.count = route.corners.len() as u16);
+    book.total = book.corners() as u16;
+}
+
+/// The plan that the independent planner writes for a generated star, or for a blank job.
+pub fn planned(random: &mut Random) -> PlanBook {
+    let kind = *random.pick(&KINDS);
+    let job = match random.below(16) {
+        0 => Job { number: random.word() as u32, runs: Vec::new() },
+        1 | 2 => generate::star(random, kind),
+        _ => generate::small_star(random, kind),
+    };
+    PlanBook::of(&job, &planner::plan(&job).expect("a star"))
+}
+
+/// A book of so many routes, with right counts and proper corners, that no planner needs to have written: any figures, and routes
+/// that may go anywhere.
+pub fn made_up(random: &mut Random, routes: usize) -> PlanBook {
+    let mut book = PlanBook {
+        job: any_word(random),
+        runs: 0,
+        trench: any_word(random),
+        saved: any_word(random),
+        pits: any_half(random),
+        centre: any_half(random),
+        routes: Vec::new(),
+        total: 0,
+    };
+    let longest = *random.pick(&[1, 2, 3, 6, 6, 20, 20, MOST_CORNERS]);
+    for _ in 0..routes {
+        let corners = if random.once_in(4) { longest } else { 1 + random.below(longest) };
+        let corners = chain(random, corners);
+        book.routes.push(route(any_half(random), any_half(random), corners));
+    }
+    count(&mut book);
+    book
+}
+
+/// A 32-bit field that nobody judges.
+fn any_word(random: &mut Random) -> u32 {
+    let any = random.word() as u32;
+    *random.pick(&[0, 1, 255, 256, 65_535, 65_536, 1 << 31, u32::MAX, any, any])
+}
+
+/// A 16-bit field that nobody judges.
+fn any_half(random: &mut Random) -> u16 {
+    let any = random.word() as u16;
+    *random.pick(&[0, 1, 2, 255, 256, 10_000, 1 << 15, u16::MAX, any, any])
+}
+
+/// So many corners, at least one, that turn at each between: along a row and a column by turns, to and fro.
+pub fn chain(random: &mut Random, corners: usize) -> Vec<Point> {
+    let reach = *random.pick(&[1, 2, 100, FAR, FAR]);
+    let value = |random: &mut Random| {
+        let any = random.from(-reach, reach);
+        *random.pick(&[-reach, reach, any, any])
+    };
+    let mut here = Point::new(value(random), value(random));
+    let mut along_row = random.once_in(2);
+    let mut chain = vec![here];
+    while chain.len() < corners {
+        let field = if along_row { &mut here.x } else { &mut here.y };
+        let old = *field;
+        while *field == old {
+            *field = value(random);
+        }
+        along_row = !along_row;
+        chain.push(here);
+    }
+    chain
+}
+
+/// A whole book of few or many routes.
+pub fn whole_book(random: &mut Random) -> PlanBook {
+    let routes = *random.pick(&[1, 1, 2, 3, 5, 9, MOST_RUNS - 1, MOST_RUNS]);
+    if random.once_in(4) { planned(random) } else { made_up(random, routes) }
+}
+
+/// A book with a byte or two changed, cut out or put in, or a part of it put elsewhere: whatever is due for it.
+fn touched(random: &mut Random) -> Vec<u8> {
+    let mut bytes = whole_book(random).bytes();
+    for _ in 0..1 + random.below(2) {
+        let at = random.below(bytes.len());
+        match random.below(6) {
+            0 => bytes[at] ^= 1 << random.below(8),
+            1 => bytes[at] = random.word() as u8,
+            2 => {
+                bytes.remove(at);
+            }
+            3 => bytes.insert(at, *random.pick(&[PLAN_HEAD, ROUTE, CORNER, END, 0, 1, 0xFF])),
+            4 => bytes[at] = *random.pick(&[PLAN_HEAD, ROUTE, CORNER, END]),
+            _ => {
+                let end = bytes.len().min(at + 1 + random.below(30));
+                let part = bytes[at..end].to_vec();
+                let to = random.below(bytes.len());
+                bytes.splice(to..to, part);
+            }
+        }
+    }
+    bytes
+}
+
+/// Whole records, most of them in order, with corners that are near each other. About half of these books are accepted, and a
+/// reader that slips on any rule is likely to differ on some.
+fn any_records(random: &mut Random) -> Vec<u8> {
+    let mut bytes = Vec::new();
+    let (mut routes, mut corners) = (0_u16, 0_u16);
+    let mut count_at = None;
+    let mut here = Point::new(0, 0);
+    if !random.once_in(30) {
+        head_record(random, &mut bytes);
+    }
+    for _ in 0..random.below(12) {
+        let in_order = match count_at {
+            None => ROUTE,
+            Some(at) if bytes[at] == 0 => CORNER,
+            Some(_) => *random.pick(&[ROUTE, CORNER, CORNER, CORNER]),
+        };
+        let any = *random.pick(&[PLAN_HEAD, ROUTE, CORNER, END]);
+        match if random.once_in(30) { any } else { in_order } {
+            PLAN_HEAD => head_record(random, &mut bytes),
+            ROUTE => {
+                count_at = Some(bytes.len() + 5);
+                bytes.push(ROUTE);
+                bytes.extend([any_half(random), any_half(random), 0].iter().flat_map(|field| field.to_le_bytes()));
+                routes += 1;
+            }
+            CORNER => {
+                here = near_corner(random, here, corners % 2 == 0);
+                bytes.push(CORNER);
+                bytes.extend([here.x, here.y].iter().flat_map(|field| field.to_le_bytes()));
+                corners += 1;
+                if let Some(at) = count_at.filter(|_| !random.once_in(50)) {
+                    bytes[at] += 1;
+                }
+            }
+            _ => bytes.extend([END, 0, 0]),
+        }
+    }
+    if bytes.len() >= HEAD_LENGTH && !random.once_in(20) {
+        bytes[5..7].copy_from_slice(&routes.to_le_bytes());
+    }
+    if !random.once_in(20) {
+        let total = if random.once_in(20) { corners ^ 1 } else { corners };
+        bytes.push(END);
+        bytes.extend(total.to_le_bytes());
+    }
+    bytes
+}
+
+/// A corner behind this one: most often a turn, and else anything near.
+fn near_corner(random: &mut Random, here: Point, along_row: bool) -> Point {
+    match (random.below(20), along_row) {
+        (0, _) => Point::new(random.from(0, 2), random.from(0, 2)),
+        (_, true) => Point::new(3 - here.x, here.y),
+        (_, false) => Point::new(here.x, 3 - here.y),
+    }
+}
+
+fn head_record(random: &mut Random, bytes: &mut Vec<u8>) {
+    bytes.push(PLAN_HEAD);
+    bytes.extend(random.bytes(HEAD_LENGTH - 1));
+}
+
+/// Bytes with no design, of any length up to 700; many have kinds at places where records may stand.
+fn noise(random: &mut Random) -> Vec<u8> {
+    let length = random.below(700);
+    let mut bytes = random.bytes(length);
+    let mut place = 0;
+    while random.below(50) > 0 && place < length {
+        let kind = if place == 0 { PLAN_HEAD } else { *random.pick(&[ROUTE, CORNER, CORNER, CORNER, END, PLAN_HEAD]) };
+        bytes[place] = kind;
+        if kind == CORNER && place + CORNER_LENGTH <= length {
+            let near = [random.from(0, 1), random.from(0, 1)].map(i32::to_le_bytes).concat();
+            bytes[place + 1..place + CORNER_LENGTH].copy_from_slice(&near);
+        }
+        place += match kind {
+            PLAN_HEAD => HEAD_LENGTH,
+            ROUTE => ROUTE_LENGTH,
+            CORNER => CORNER_LENGTH,
+            _ => END_LENGTH,
+        };
+    }
+    bytes
+}

@@ -1,0 +1,89 @@
+//! What a comparison tried, and what was wrong.
+
+use std::collections::BTreeMap;
+use std::fmt;
+
+use crate::job::MOST_RUNS;
+
+/// What was tried.
+#[derive(Clone, Copy, Debug, PartialEq, Eq)]
+pub enum Subject {
+    /// The planner, with job books.
+    Jobs,
+    /// The reader, with plan books.
+    Plans,
+}
+
+/// What was tried, and what was wrong.
+pub struct Report {
+    /// Which books these are.
+    pub subject: Subject,
+    /// The number of books.
+    pub books: usize,
+    /// The number of calls.
+    pub calls: usize,
+    /// The number of accepted books by their number of runs or routes.
+    pub accepted: BTreeMap<usize, usize>,
+    /// The number of refused books by refusal number.
+    pub refused: BTreeMap<i32, usize>,
+    /// The number of bytes of the longest plan.
+    pub longest_plan: usize,
+    /// What was wrong, in words, with the book that shows it.
+    pub faults: Vec<String>,
+}
+
+impl Report {
+    /// A report of nothing yet.
+    pub fn of(subject: Subject) -> Report {
+        Report {
+            subject,
+            books: 0,
+            calls: 0,
+            accepted: BTreeMap::new(),
+            refused: BTreeMap::new(),
+            longest_plan: 0,
+            faults: Vec::new(),
+        }
+    }
+
+    /// Adds what another report of the same subject says.
+    pub fn add(&mut self, other: Report) {
+        assert_eq!(self.subject, other.subject);
+        self.books += other.books;
+        self.calls += other.calls;
+        self.longest_plan = self.longest_plan.max(other.longest_plan);
+        other.accepted.into_iter().for_each(|(runs, count)| *self.accepted.entry(runs).or_default() += count);
+        other.refused.into_iter().for_each(|(number, count)| *self.refused.entry(number).or_default() += count);
+        self.faults.extend(other.faults);
+    }
+
+    /// What of documents 01 and 02 no book of this report tried: a refusal, or a number of runs or routes from 0 to 32. A report
+    /// of many books should have nothing here.
+    pub fn untried(&self) -> Vec<String> {
+        let (numbers, what, runs): (&[i32], _, _) = match self.subject {
+            Subject::Jobs => (&[3, 4, 5, 6, 7, 8, 9, 11], "a star", "runs"),
+            Subject::Plans => (&[8, 12, 13, 14], "a plan", "routes"),
+        };
+        let refusals = numbers.iter().filter(|number| !self.refused.contains_key(number));
+        let counts = (0..=MOST_RUNS).filter(|count| !self.accepted.contains_key(count));
+        refusals.map(|n| format!("refusal {n}")).chain(counts.map(|n| format!("{what} of {n} {runs}"))).collect()
+    }
+}
+
+impl fmt::Display for Report {
+    fn fmt(&self, out: &mut fmt::Formatter) -> fmt::Result {
+        let accepted: usize = self.accepted.values().sum();
+        let (blank, full) = [0, MOST_RUNS].map(|count| self.accepted.get(&count).copied().unwrap_or(0)).into();
+        let refused: Vec<String> = self.refused.iter().map(|(number, count)| format!("{number}: {count}")).collect();
+        let (books, runs) = match self.subject {
+            Subject::Jobs => ("jobs", "runs"),
+            Subject::Plans => ("plan books", "routes"),
+        };
+        write!(
+            out,
+            "{} {books}, {} calls: {accepted} accepted ({blank} blank, {full} of 32 {runs}, longest plan {} bytes)",
+            self.books, self.calls, self.longest_plan
+        )?;
+        write!(out, "; refused by number: {}; {} faults", refused.join(", "), self.faults.len())
+    }
+}

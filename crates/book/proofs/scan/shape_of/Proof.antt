@@ -1,0 +1,188 @@
+-- `book::scan::shape_of` meets its contract. The invariant puts the places so far in front of what the rest of the book gives (`SoFar`); the measure is the
+-- number of bytes that are left.
+use mathlib.Core.Path.{sym, _∙_}
+use Prim.Native.Nat.{_-_}
+use native.Mathlib.Omega.{arith}
+use borrow.Author.Needs.{needs}
+use lib.ListN.{length}
+use Rattle.book.proofs.Progress.{
+  SoFar,
+  first-refused,
+  else-head,
+  so-far-none,
+  took-route,
+  so-far-route,
+  route-less,
+  near-fits,
+  so-far-end,
+  so-far-refused,
+  passes-on,
+  run-so-far,
+  run-route,
+  run-end,
+  run-refused,
+}
+use Rattle.book.proofs.scan.shape_of.Statement.{statement}
+use Rattle.book.proofs.scan.shape_of.Tie as tie
+
+abbrev Inv-loop : tie.InvT-loop
+Inv-loop book head places₀ at₀ w₀ places at w = SoFar book places at w
+
+abbrev μ-loop : tie.MeasureT-loop
+μ-loop book head places₀ at₀ w₀ places at w = length book - at
+
+first-record-requires : tie.Need-first-record-requires Inv-loop μ-loop
+first-record-requires c κs = search needs
+
+enum-known-first : tie.Need-enum-known-first Inv-loop μ-loop
+enum-known-first c = search needs
+
+refuse-requires : tie.Need-refuse-requires Inv-loop μ-loop
+refuse-requires c κs = search needs
+
+returns : tie.Need-returns Inv-loop μ-loop
+returns c =
+    let g = c .before .before .first-record in
+    c .refuse .ensures ∙ first-refused _ (g .result) (sym (g .ensures)) (else-head (g .result) (c .before .match .keys2))
+
+start-requires : tie.Need-start-requires Inv-loop μ-loop
+start-requires c κs = search needs
+
+loop-holds : tie.Need-loop-holds Inv-loop μ-loop
+loop-holds c = rw (c .start .ensures) (so-far-none _ _ (sym (c .before .before .before .before .first-record .ensures) ∙ c .before .before .first .given .1))
+
+run-from-requires : tie.Need-run-from-requires Inv-loop μ-loop
+run-from-requires c κs = c .loop .inv .within
+
+enum-told : tie.Need-enum-told Inv-loop μ-loop
+enum-told c = search needs
+
+cast-places : tie.Need-cast-places Inv-loop μ-loop
+cast-places c =
+    let r = c .before .before .before .before .run-from in
+    let i = c .before .before .before .before .before .loop .inv in
+    let f = run-so-far _ _ _ _ i (r .result) (r .ensures) in
+    record { fits = near-fits _ _ _ _ f }
+
+mul-places : tie.Need-mul-places Inv-loop μ-loop
+mul-places c =
+    let r = c .before .before .before .before .run-from in
+    let i = c .before .before .before .before .before .loop .inv in
+    let f = run-so-far _ _ _ _ i (r .result) (r .ensures) in
+    let (number, meets, said, e) = run-route _ _ _ _ i (r .result) (r .ensures) (c .before .enum-told .given .1) in
+    record { fits = omega (arith, took-route _ _ _ _ f number meets said e .room) }
+
+array-write-places : tie.Need-array-write-places Inv-loop μ-loop
+array-write-places c =
+    let r = c .before .before .before .before .run-from in
+    let i = c .before .before .before .before .before .loop .inv in
+    let f = run-so-far _ _ _ _ i (r .result) (r .ensures) in
+    let (number, meets, said, e) = run-route _ _ _ _ i (r .result) (r .ensures) (c .before .enum-told .given .1) in
+    omega (arith, took-route _ _ _ _ f number meets said e .room)
+
+begin-requires : tie.Need-begin-requires Inv-loop μ-loop
+begin-requires c κs =
+    let r = c .before .before .before .before .run-from in
+    let i = c .before .before .before .before .before .loop .inv in
+    let f = run-so-far _ _ _ _ i (r .result) (r .ensures) in
+    let (number, meets, said, e) = run-route _ _ _ _ i (r .result) (r .ensures) (c .before .enum-told .given .1) in
+    took-route _ _ _ _ f number meets said e .room
+
+add-at : tie.Need-add-at Inv-loop μ-loop
+add-at c =
+    let r = c .before .before .before .before .before .before .run-from in
+    let i = c .before .before .before .before .before .before .before .loop .inv in
+    let f = run-so-far _ _ _ _ i (r .result) (r .ensures) in
+    record { fits = omega (arith, near-fits _ _ _ _ f) }
+
+loop-less : tie.Need-loop-less Inv-loop μ-loop
+loop-less c =
+    let r = c .before .before .before .before .before .before .run-from in
+    let i = c .before .before .before .before .before .before .before .loop .inv in
+    let f = run-so-far _ _ _ _ i (r .result) (r .ensures) in
+    let (number, meets, said, e) = run-route _ _ _ _ i (r .result) (r .ensures) (c .before .before .before .enum-told .given .1) in
+    omega (arith, route-less _ _ _ _ f number meets said e, passes-on _ _ _ _ _ (r .ensures .passes))
+
+loop-again : tie.Need-loop-again Inv-loop μ-loop
+loop-again c =
+    let r = c .before .before .before .before .before .before .run-from in
+    let i = c .before .before .before .before .before .before .before .loop .inv in
+    let f = run-so-far _ _ _ _ i (r .result) (r .ensures) in
+    let (number, meets, said, e) = run-route _ _ _ _ i (r .result) (r .ensures) (c .before .before .before .enum-told .given .1) in
+    rw (c .before .begin .ensures) (so-far-route _ _ _ _ f number meets said e)
+
+enum-known-stop : tie.Need-enum-known-stop Inv-loop μ-loop
+enum-known-stop c = search needs
+
+cast-places-2 : tie.Need-cast-places-2 Inv-loop μ-loop
+cast-places-2 c =
+    let r = c .before .before .before .before .before .run-from in
+    let i = c .before .before .before .before .before .before .loop .inv in
+    let f = run-so-far _ _ _ _ i (r .result) (r .ensures) in
+    record { fits = near-fits _ _ _ _ f }
+
+mul-places-2 : tie.Need-mul-places-2 Inv-loop μ-loop
+mul-places-2 c =
+    let r = c .before .before .before .before .before .run-from in
+    let i = c .before .before .before .before .before .before .loop .inv in
+    let f = run-so-far _ _ _ _ i (r .result) (r .ensures) in
+    record { fits = omega (arith, f .few) }
+
+array-write-places-2 : tie.Need-array-write-places-2 Inv-loop μ-loop
+array-write-places-2 c =
+    let r = c .before .before .before .before .before .run-from in
+    let i = c .before .before .before .before .before .before .loop .inv in
+    let f = run-so-far _ _ _ _ i (r .result) (r .ensures) in
+    omega (arith, f .few)
+
+returns-2 : tie.Need-returns-2 Inv-loop μ-loop
+returns-2 c =
+    let r = c .before .before .before .before .before .run-from in
+    let i = c .before .before .before .before .before .before .loop .inv in
+    let f = run-so-far _ _ _ _ i (r .result) (r .ensures) in
+    let e = run-end _ _ _ _ i (r .result) (r .ensures) _ (c .before .before .stop .given .1) in
+    so-far-end _ _ _ _ f _ _ (sym (c .before .before .before .before .before .before .before .before .before .before .before .first-record .ensures) ∙ c .before .before .before .before .before .before .before .before .before .first .given .1) e
+
+enum-known-stop-2 : tie.Need-enum-known-stop-2 Inv-loop μ-loop
+enum-known-stop-2 c = search needs
+
+refuse-requires-2 : tie.Need-refuse-requires-2 Inv-loop μ-loop
+refuse-requires-2 c κs = search needs
+
+returns-3 : tie.Need-returns-3 Inv-loop μ-loop
+returns-3 c =
+    let r = c .before .before .before .before .before .run-from in
+    let i = c .before .before .before .before .before .before .loop .inv in
+    let f = run-so-far _ _ _ _ i (r .result) (r .ensures) in
+    let e = run-refused _ _ _ _ i (r .result) (r .ensures) _ (c .before .before .stop2 .given .1) in
+    c .refuse2 .ensures ∙ so-far-refused _ _ _ _ f _ _ (sym (c .before .before .before .before .before .before .before .before .before .before .before .first-record .ensures) ∙ c .before .before .before .before .before .before .before .before .before .first .given .1) e
+
+pub shape-of-spec : {M : Type 1} → statement M
+shape-of-spec =
+    tie.close
+    (tie.spec
+    Inv-loop
+    μ-loop
+    first-record-requires
+    enum-known-first
+    refuse-requires
+    returns
+    start-requires
+    loop-holds
+    run-from-requires
+    enum-told
+    cast-places
+    mul-places
+    array-write-places
+    begin-requires
+    add-at
+    loop-less
+    loop-again
+    enum-known-stop
+    cast-places-2
+    mul-places-2
+    array-write-places-2
+    returns-2
+    enum-known-stop-2
+    refuse-requires-2
+    returns-3)

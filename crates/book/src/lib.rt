@@ -1,0 +1,306 @@
+// Reads a plan book back (document 02, C-12): its figures, its routes and their corners, or the first refusal.
+mod scan;
+mod steps;
+
+use plan::Head;
+use records::Record;
+use refusal::Refusal;
+ghost use mathlib.Core.Path.{_≡_};
+ghost use Prim.Native.Nat.{_<_};
+ghost use lib.ListN.{getD, drop};
+ghost use mir.Syntax.{w32};
+ghost use mir.Val.{toZ};
+ghost use Rattle.records.specs.Records.{recordOf};
+ghost use Rattle.book.specs.Parse.{refused, parsePlan};
+ghost use Rattle.book.specs.Shape.{saidOf, shapeOf};
+ghost use Rattle.book.specs.Reading.{figuresOf, routeOf, cornerOf, readingOf, routeBy, cornerBy};
+
+// What reading says of a book.
+pub enum Answer {
+    Accepted,
+    Refused(Refusal),
+}
+
+// What reading gives, by value: the answer, the head, and the places of the routes, with that of the end behind them and 0 after it. The head of a
+// refusal has the figures 0, and its places are 0.
+pub struct Reading {
+    pub answer: Answer,
+    pub head: Head,
+    pub places: [u32; 33],
+}
+
+// The figures of a plan.
+pub enum Figures {
+    Found(Head),
+    Nothing,
+}
+
+// A route: its run number, how many runs that one meets, and how many corners the route has.
+pub enum Route {
+    Found {
+        number: u32,
+        meets: u32,
+        corners: u32,
+    },
+    Nothing,
+}
+
+// A corner, in decimetres.
+pub enum Spot {
+    Found { x: i32, y: i32 },
+    Nothing,
+}
+
+// A corner, each coordinate the decimetres plus 1,000,000: above 2,000,000 where it lies outside its range.
+pub struct Corner {
+    pub x: u32,
+    pub y: u32,
+}
+
+// The routes begun, the corners of the last of them, the last of these corners, and whether the one before it is on its column.
+pub struct Walk {
+    pub routes: usize,
+    pub corners: usize,
+    pub last: Corner,
+    pub upright: bool,
+}
+
+// What a record after the head says.
+pub enum Step {
+    Route {
+        number: u32,
+        meets: u32,
+        corners: u32,
+    },
+    Corner(Corner),
+    End(u32),
+    Refuse(Refusal),
+}
+
+// Where no more corner is taken: a route, the end, or a refusal.
+pub enum Stop {
+    Route,
+    End(u32),
+    Refuse(Refusal),
+}
+
+// Corners that are taken one behind the other: the place behind them, what is known there, and what stands there.
+pub struct Run {
+    pub at: usize,
+    pub walk: Walk,
+    pub stop: Stop,
+}
+
+// A head with whole records behind it, or the first of the refusals 12, 8 and 13.
+pub enum Found {
+    Whole(Head),
+    Refused(Refusal),
+}
+
+// What the records say before the counts are compared: the number of routes, the end's total, and where each route and the end stand.
+pub struct Shape {
+    pub found: Found,
+    pub count: usize,
+    pub total: u32,
+    pub places: [u32; 33],
+}
+
+fn wide(x: u32) -> usize
+    ensures { λ r. ⌜ (r ≡ x) × (r < 4294967296) ⌝ }
+{
+    x as usize
+}
+
+// The record at a place of the book.
+fn record_at(book: &[u8], at: usize) -> Record
+    ensures { λ r. ⌜ r ≡ recordOf (drop at (now (book .entry))) ⌝ }
+{
+    if at > book.len() {
+        return Record::Other;
+    }
+    records::first_record(&book[at..])
+}
+
+// The reading of a refusal.
+fn refuse(refusal: Refusal) -> Reading
+    ensures { λ r. ⌜ r ≡ readingOf (refused refusal) ⌝ }
+{
+    Reading {
+        answer: Answer::Refused(refusal),
+        head: Head {
+            job: 0,
+            runs: 0,
+            trench: 0,
+            saved: 0,
+            pits: 0,
+            centre: 0,
+        },
+        places: [0; 33],
+    }
+}
+
+// The number of corners that the route record at a place says.
+fn said_at(book: &[u8], at: usize) -> u32
+    ensures { λ r. ⌜ r ≡ saidOf (recordOf (drop at (now (book .entry)))) ⌝ }
+{
+    let found = record_at(book, at);
+    let Record::Route {
+        number,
+        meets,
+        corners,
+    } = found
+    else {
+        return 0;
+    };
+    corners
+}
+
+// Compares the counts of a book that is whole, in the book's order.
+fn compare(book: &[u8], head: Head, shape: Shape) -> Reading
+    requires { ⌜ (shape ≡ shapeOf (now book)) × (shape .found ≡ Found.Whole head) ⌝ }
+    ensures { λ r. ⌜ r ≡ readingOf (parsePlan (now (book .entry))) ⌝ }
+{
+    let n = shape.count;
+    if wide(head.runs) != n {
+        return refuse(Refusal::Miscounted(0));
+    }
+    let mut i: usize = 0;
+    while i < n {
+        let at = wide(shape.places[i]);
+        let end = wide(shape.places[i + 1]);
+        let said = wide(said_at(book, at));
+        if (end == at + 7) | !(end == at + 7 + 9 * said) {
+            return refuse(Refusal::Miscounted(at));
+        }
+        i += 1;
+    }
+    let total = wide(shape.total);
+    let end = wide(shape.places[n]);
+    if end != 19 + 7 * n + 9 * total {
+        return refuse(Refusal::Miscounted(end));
+    }
+    let places = shape.places;
+    Reading {
+        answer: Answer::Accepted,
+        head,
+        places,
+    }
+}
+
+// Reads a plan book, for every list of bytes.
+pub fn read(book: &[u8]) -> Reading
+    ensures { λ r. ⌜ r ≡ readingOf (parsePlan (now (book .entry))) ⌝ }
+{
+    let shape = scan::shape_of(book);
+    let found = shape.found;
+    match found {
+        Found::Refused(refusal) => refuse(refusal),
+        Found::Whole(head) => compare(book, head, shape),
+    }
+}
+
+// ---- by places: one look at them, and one record of the book
+
+// The place with an index, 0 after the last.
+fn place_in(places: &[u32], i: usize) -> usize
+    ensures { λ r. ⌜ (r ≡ getD (now (places .entry)) i 0) × (r < 4294967296) ⌝ }
+{
+    if i >= places.len() {
+        return 0;
+    }
+    wide(places[i])
+}
+
+// A word, read as two's complement.
+fn signed(word: u32) -> i32
+    ensures { λ r. ⌜ r ≡ toZ w32 word ⌝ }
+{
+    if word < 2147483648 {
+        return word as i32;
+    }
+    -1 - (4294967295 - word) as i32
+}
+
+// Route i of a book, by the places that reading it gave.
+pub fn route_in(book: &[u8], places: &[u32], i: usize) -> Route
+    ensures { λ r. ⌜ r ≡ routeBy (now (book .entry)) (now (places .entry)) i ⌝ }
+{
+    if i >= places.len() {
+        return Route::Nothing;
+    }
+    let at = place_in(places, i);
+    if at >= place_in(places, i + 1) {
+        return Route::Nothing;
+    }
+    let found = record_at(book, at);
+    let Record::Route {
+        number,
+        meets,
+        corners,
+    } = found
+    else {
+        return Route::Nothing;
+    };
+    Route::Found {
+        number,
+        meets,
+        corners,
+    }
+}
+
+// Corner j of route i of a book, by the places that reading it gave.
+pub fn corner_in(book: &[u8], places: &[u32], i: usize, j: usize) -> Spot
+    ensures { λ r. ⌜ r ≡ cornerBy (now (book .entry)) (now (places .entry)) i j ⌝ }
+{
+    if i >= places.len() {
+        return Spot::Nothing;
+    }
+    if j >= 127 {
+        return Spot::Nothing;
+    }
+    let at = place_in(places, i) + 7 + 9 * j;
+    if at >= place_in(places, i + 1) {
+        return Spot::Nothing;
+    }
+    let found = record_at(book, at);
+    let Record::Corner { x, y } = found else {
+        return Spot::Nothing;
+    };
+    Spot::Found {
+        x: signed(x),
+        y: signed(y),
+    }
+}
+
+// ---- by reading the book anew
+
+// The figures of a book.
+pub fn figures_of(book: &[u8]) -> Figures
+    ensures { λ r. ⌜ r ≡ figuresOf (parsePlan (now (book .entry))) ⌝ }
+{
+    let reading = read(book);
+    let answer = reading.answer;
+    let head = reading.head;
+    match answer {
+        Answer::Accepted => Figures::Found(head),
+        Answer::Refused(_) => Figures::Nothing,
+    }
+}
+
+// Route i of a book.
+pub fn route_of(book: &[u8], i: usize) -> Route
+    ensures { λ r. ⌜ r ≡ routeOf (parsePlan (now (book .entry))) i ⌝ }
+{
+    let reading = read(book);
+    let places = reading.places;
+    route_in(book, &places, i)
+}
+
+// Corner j of route i of a book.
+pub fn corner_of(book: &[u8], i: usize, j: usize) -> Spot
+    ensures { λ r. ⌜ r ≡ cornerOf (parsePlan (now (book .entry))) i j ⌝ }
+{
+    let reading = read(book);
+    let places = reading.places;
+    corner_in(book, &places, i, j)
+}

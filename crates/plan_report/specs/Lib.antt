@@ -1,0 +1,2 @@
+-- What the listing of a stored plan says.
+pub mod BookListed

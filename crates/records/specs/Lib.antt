@@ -1,0 +1,2 @@
+-- The records of a plan book, read.
+pub mod Records

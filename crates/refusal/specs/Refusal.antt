@@ -1,0 +1,36 @@
+-- The number and the place of each refusal, of jobs (document 01, "What a call says and leaves") and of plan books (document 02, C-12). 1, 2 and 11 have the
+-- place 0; 10 is no refusal's number (document 02, C-11).
+-- Assumes nothing.
+use Prim.Native.Nat.{ℕ}
+use Rattle.refusal.specs.declared.Refusal.{Refusal}
+use Rattle.refusal.specs.declared.Refusal.the-variants.{ShortWork, ShortPlan, Cut, UnknownKind, Misplaced, WrongCount, WrongNumber, OutOfRange, TooManyRuns, NoStar, NotWhole, NoTurn, Miscounted}
+
+abbrev pub refusalNumber : Refusal → ℕ
+refusalNumber ShortWork = 1
+refusalNumber ShortPlan = 2
+refusalNumber (Cut at) = 3
+refusalNumber (UnknownKind at) = 4
+refusalNumber (Misplaced at) = 5
+refusalNumber (WrongCount at) = 6
+refusalNumber (WrongNumber at) = 7
+refusalNumber (OutOfRange at) = 8
+refusalNumber (TooManyRuns at) = 9
+refusalNumber NoStar = 11
+refusalNumber (NotWhole at) = 12
+refusalNumber (NoTurn at) = 13
+refusalNumber (Miscounted at) = 14
+
+abbrev pub refusalPlace : Refusal → ℕ
+refusalPlace ShortWork = 0
+refusalPlace ShortPlan = 0
+refusalPlace (Cut at) = at
+refusalPlace (UnknownKind at) = at
+refusalPlace (Misplaced at) = at
+refusalPlace (WrongCount at) = at
+refusalPlace (WrongNumber at) = at
+refusalPlace (OutOfRange at) = at
+refusalPlace (TooManyRuns at) = at
+refusalPlace NoStar = 0
+refusalPlace (NotWhole at) = at
+refusalPlace (NoTurn at) = at
+refusalPlace (Miscounted at) = at

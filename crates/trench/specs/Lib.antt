@@ -1,0 +1,3 @@
+-- What the functions for C answer and leave.
+pub mod Words
+pub mod Told

@@ -1,0 +1,133 @@
+// The functions for C: planning a job for the map screen, and reading a plan book. include/trench.h says what each is lent and leaves.
+use book::Answer;
+use book::Figures;
+use book::Route;
+use book::Spot;
+ghost use mathlib.Core.Path.{_≡_};
+ghost use lib.ListN.{length};
+ghost use Rattle.planner.specs.Verdict.{verdict};
+ghost use Rattle.planner.specs.Outcome.{MapOutcome};
+ghost use Rattle.book.specs.Parse.{parsePlan};
+ghost use Rattle.book.specs.Reading.{figuresOf, placesOf, routeBy, cornerBy};
+ghost use Rattle.trench.specs.Words.{Filled};
+ghost use Rattle.trench.specs.Told.{codeOf, placeOf, figureWords, routeWords, spotWords};
+
+// Plans a job: the plan's length, or minus the refusal number.
+#[no_mangle]
+pub extern "C" fn trench_plan(job: &[u8], out: &mut [u8]) -> i32
+    ensures { λ r. ⌜ MapOutcome (verdict (now (job .entry)) 16384 (length (now (out .entry)))) (now (out .entry)) r (now (out .exit)) ⌝ }
+{
+    planner::plan_for_map(job, out)
+}
+
+// Reads a plan book: its number of routes, or minus the refusal number.
+#[no_mangle]
+pub extern "C" fn trench_read(book: &[u8]) -> i32
+    ensures { λ r. ⌜ r ≡ codeOf (parsePlan (now (book .entry))) ⌝ }
+{
+    let reading = book::read(book);
+    let answer = reading.answer;
+    let head = reading.head;
+    match answer {
+        Answer::Accepted => head.runs as i32,
+        Answer::Refused(refusal) => planner::codes::code_of(refusal),
+    }
+}
+
+// The place of a plan book's refusal, 0 where it has none.
+#[no_mangle]
+pub extern "C" fn trench_read_place(book: &[u8]) -> usize
+    ensures { λ r. ⌜ r ≡ placeOf (parsePlan (now (book .entry))) ⌝ }
+{
+    let reading = book::read(book);
+    let answer = reading.answer;
+    match answer {
+        Answer::Accepted => 0,
+        Answer::Refused(refusal) => refusal::place(refusal),
+    }
+}
+
+// The figures of a plan book: job, runs, trench, saved, pits, centre.
+#[no_mangle]
+pub extern "C" fn trench_figures(book: &[u8], figures: &mut [u32]) -> usize
+    ensures { λ n. ⌜ Filled (figureWords (figuresOf (parsePlan (now (book .entry))))) (now (figures .entry)) (now (figures .exit)) n ⌝ }
+{
+    let found = book::figures_of(book);
+    let Figures::Found(head) = found else {
+        return 0;
+    };
+    if figures.len() < 6 {
+        return 0;
+    }
+    figures[0] = head.job;
+    figures[1] = head.runs;
+    figures[2] = head.trench;
+    figures[3] = head.saved;
+    figures[4] = head.pits;
+    figures[5] = head.centre;
+    6
+}
+
+// The places of a plan book's routes, of its end, and zeros.
+#[no_mangle]
+pub extern "C" fn trench_places(book: &[u8], places: &mut [u32]) -> usize
+    ensures { λ n. ⌜ Filled (placesOf (parsePlan (now (book .entry)))) (now (places .entry)) (now (places .exit)) n ⌝ }
+{
+    let reading = book::read(book);
+    let found = reading.places;
+    if places.len() < 33 {
+        return 0;
+    }
+    let mut k: usize = 0;
+    while k < 33 {
+        places[k] = found[k];
+        k += 1;
+    }
+    33
+}
+
+// Route i of a plan book by its places: run number, meets, corners.
+#[no_mangle]
+pub extern "C" fn trench_route(book: &[u8], places: &[u32], i: usize, route: &mut [u32]) -> usize
+    ensures { λ n. ⌜ Filled (routeWords (routeBy (now (book .entry)) (now (places .entry)) i)) (now (route .entry)) (now (route .exit)) n ⌝ }
+{
+    let found = book::route_in(book, places, i);
+    let Route::Found {
+        number,
+        meets,
+        corners,
+    } = found
+    else {
+        return 0;
+    };
+    if route.len() < 3 {
+        return 0;
+    }
+    route[0] = number;
+    route[1] = meets;
+    route[2] = corners;
+    3
+}
+
+// Corner j of route i of a plan book by its places: x, y in decimetres.
+#[no_mangle]
+pub extern "C" fn trench_corner(
+    book: &[u8],
+    places: &[u32],
+    i: usize,
+    j: usize,
+    corner: &mut [i32],
+) -> usize
+    ensures { λ n. ⌜ Filled (spotWords (cornerBy (now (book .entry)) (now (places .entry)) i j)) (now (corner .entry)) (now (corner .exit)) n ⌝ }
+{
+    let found = book::corner_in(book, places, i, j);
+    let Spot::Found { x, y } = found else {
+        return 0;
+    };
+    if corner.len() < 2 {
+        return 0;
+    }
+    corner[0] = x;
+    corner[1] = y;
+    2
+}
