@@ -1,6 +1,5 @@
 -- `book::compare` meets its contract. The invariant: the counts from route i on decide what all counts decide.
-use mathlib.Core.Path.{_≡_, sym, ap, ap₂, _∙_}
-use mathlib.Core.List.{List}
+use mathlib.Core.Path.{sym, ap, ap₂, _∙_}
 use Prim.Native.Nat.{ℕ, _-_, _≤_}
 use native.Mathlib.Omega.{arith}
 use lib.ListN.{drop}
@@ -9,11 +8,9 @@ use borrow.Author.Needs.{needs}
 use Rattle.refusal.specs.declared.Refusal.the-variants.{Miscounted}
 use Rattle.plan.specs.declared.Head.{Head}
 use Rattle.records.specs.Records.{recordOf}
-use Rattle.book.specs.declared.Found.the-variants as Found
-use Rattle.book.specs.declared.Shape.{Shape}
 use Rattle.book.specs.Parse.{refused}
 use Rattle.book.specs.Reading.{readingOf}
-use Rattle.book.specs.Shape.{shapeOf, saidOf}
+use Rattle.book.specs.Shape.{saidOf}
 use Rattle.book.proofs.Counts.{
   WholeBook,
   whole-book,
@@ -32,15 +29,15 @@ use Rattle.book.proofs.Counts.{
 use Rattle.book.proofs.compare.Statement.{statement}
 use Rattle.book.proofs.compare.Tie as tie
 
--- the book that is whole, by its shape
-abbrev whole : (s : List ℕ) (shape : Shape) (h : Head) → (shape ≡ shapeOf s) × (shape .found ≡ Found.Whole h) → WholeBook s shape h
-whole s shape h e = whole-book s shape h e
-
 abbrev Inv-loop : tie.InvT-loop
 Inv-loop book head shape n i₀ i = (i ≤ n) × ((h : Head) (w : WholeBook book shape h) → Comparing w i)
 
 abbrev μ-loop : tie.MeasureT-loop
 μ-loop book head shape n i₀ i = n - i
+
+-- the book that is whole, from where the function starts
+whole : (c : tie.Start Inv-loop μ-loop) → WholeBook (now (c .args .book)) (c .args .t3) (c .args .head)
+whole c = whole-book (now (c .args .book)) (c .args .t3) (c .args .head) (c .pre)
 
 wide-requires : tie.Need-wide-requires Inv-loop μ-loop
 wide-requires c κs = search needs
@@ -50,28 +47,28 @@ refuse-requires c κs = search needs
 
 returns : tie.Need-returns Inv-loop μ-loop
 returns c =
-    c .refuse .ensures ∙ runs-wrong (whole (now (c .before .before .before .before .args .book)) (c .before .before .before .before .args .t3) (c .before .before .before .before .args .head) (c .before .before .before .before .pre)) (λ z. c .before .if1 .taken (c .before .before .wide .ensures .0 ∙ z))
+    c .refuse .ensures ∙ runs-wrong (whole (c .before .before .before .before)) (λ z. c .before .if1 .taken (c .before .before .wide .ensures .0 ∙ z))
 
 loop-holds : tie.Need-loop-holds Inv-loop μ-loop
 loop-holds c = (omega arith, λ h w. comparing-start w)
 
 mul-wide : tie.Need-mul-wide Inv-loop μ-loop
-mul-wide c = record { fits = omega (arith, small (whole (now (c .before .before .before .before .before .args .book)) (c .before .before .before .before .before .args .t3) (c .before .before .before .before .before .args .head) (c .before .before .before .before .before .pre)) _ (c .loop-test .taken)) }
+mul-wide c = record { fits = omega (arith, small (whole (c .before .before .before .before .before)) _ (c .loop-test .taken)) }
 
 element-copy-out-wide : tie.Need-element-copy-out-wide Inv-loop μ-loop
-element-copy-out-wide c = omega (arith, small (whole (now (c .before .before .before .before .before .args .book)) (c .before .before .before .before .before .args .t3) (c .before .before .before .before .before .args .head) (c .before .before .before .before .before .pre)) _ (c .loop-test .taken))
+element-copy-out-wide c = omega (arith, small (whole (c .before .before .before .before .before)) _ (c .loop-test .taken))
 
 wide-requires-2 : tie.Need-wide-requires-2 Inv-loop μ-loop
 wide-requires-2 c κs = search needs
 
 add-wide : tie.Need-add-wide Inv-loop μ-loop
-add-wide c = record { fits = omega (arith, small (whole (now (c .before .before .before .before .before .before .before .args .book)) (c .before .before .before .before .before .before .before .args .t3) (c .before .before .before .before .before .before .before .args .head) (c .before .before .before .before .before .before .before .pre)) _ (c .before .before .loop-test .taken)) }
+add-wide c = record { fits = omega (arith, small (whole (c .before .before .before .before .before .before .before)) _ (c .before .before .loop-test .taken)) }
 
 mul-wide-2 : tie.Need-mul-wide-2 Inv-loop μ-loop
-mul-wide-2 c = record { fits = omega (arith, small (whole (now (c .before .before .before .before .before .before .before .args .book)) (c .before .before .before .before .before .before .before .args .t3) (c .before .before .before .before .before .before .before .args .head) (c .before .before .before .before .before .before .before .pre)) _ (c .before .before .loop-test .taken)) }
+mul-wide-2 c = record { fits = omega (arith, small (whole (c .before .before .before .before .before .before .before)) _ (c .before .before .loop-test .taken)) }
 
 element-copy-out-wide-2 : tie.Need-element-copy-out-wide-2 Inv-loop μ-loop
-element-copy-out-wide-2 c = omega (arith, small (whole (now (c .before .before .before .before .before .before .before .args .book)) (c .before .before .before .before .before .before .before .args .t3) (c .before .before .before .before .before .before .before .args .head) (c .before .before .before .before .before .before .before .pre)) _ (c .before .before .loop-test .taken))
+element-copy-out-wide-2 c = omega (arith, small (whole (c .before .before .before .before .before .before .before)) _ (c .before .before .loop-test .taken))
 
 wide-requires-3 : tie.Need-wide-requires-3 Inv-loop μ-loop
 wide-requires-3 c κs = search needs
@@ -99,7 +96,7 @@ refuse-requires-2 c κs = search needs
 
 returns-2 : tie.Need-returns-2 Inv-loop μ-loop
 returns-2 c =
-    let w = (whole (now (c .before .before .before .before .before .before .before .before .before .before .before .before .before .args .book)) (c .before .before .before .before .before .before .before .before .before .before .before .before .before .args .t3) (c .before .before .before .before .before .before .before .before .before .before .before .before .before .args .head) (c .before .before .before .before .before .before .before .before .before .before .before .before .before .pre)) in
+    let w = (whole (c .before .before .before .before .before .before .before .before .before .before .before .before .before)) in
     let book = (now (c .before .before .before .before .before .before .before .before .before .before .before .before .before .args .book)) in
     let at = c .before .before .before .before .before .before .wide2 .ensures .0 in
     let end = c .before .before .before .before .wide3 .ensures .0 in
@@ -109,7 +106,7 @@ returns-2 c =
     (ap₂ (λ (p q : ℕ). byPlaces p q (c .before .before .before .said-at .result)) (sym at) (sym end) ∙ ap (λ (k : ℕ). byPlaces (c .before .before .before .before .before .before .wide2 .result) (c .before .before .before .before .wide3 .result) k) (sym said) ∙ c .before .if2 .taken) (sym (c .before .before .before .before .before .before .before .before .before .before .before .wide .ensures .0) ∙ c .before .before .before .before .before .before .before .before .before .before .if1 .left) (c .before .before .before .before .before .before .before .before .before .loop .inv .1 _ w)
 
 add-i : tie.Need-add-i Inv-loop μ-loop
-add-i c = record { fits = omega (arith, small (whole (now (c .before .before .before .before .before .before .before .before .before .before .before .before .args .book)) (c .before .before .before .before .before .before .before .before .before .before .before .before .args .t3) (c .before .before .before .before .before .before .before .before .before .before .before .before .args .head) (c .before .before .before .before .before .before .before .before .before .before .before .before .pre)) _ (c .before .before .before .before .before .before .before .loop-test .taken)) }
+add-i c = record { fits = omega (arith, small (whole (c .before .before .before .before .before .before .before .before .before .before .before .before)) _ (c .before .before .before .before .before .before .before .loop-test .taken)) }
 
 loop-less : tie.Need-loop-less Inv-loop μ-loop
 loop-less c = omega (arith, c .before .before .before .before .before .before .before .loop-test .taken)
@@ -129,32 +126,32 @@ wide-requires-5 : tie.Need-wide-requires-5 Inv-loop μ-loop
 wide-requires-5 c κs = search needs
 
 mul-wide-3 : tie.Need-mul-wide-3 Inv-loop μ-loop
-mul-wide-3 c = record { fits = omega (arith, few-routes (whole (now (c .before .before .before .before .before .before .args .book)) (c .before .before .before .before .before .before .args .t3) (c .before .before .before .before .before .before .args .head) (c .before .before .before .before .before .before .pre))) }
+mul-wide-3 c = record { fits = omega (arith, few-routes (whole (c .before .before .before .before .before .before))) }
 
 element-copy-out-wide-3 : tie.Need-element-copy-out-wide-3 Inv-loop μ-loop
-element-copy-out-wide-3 c = omega (arith, few-routes (whole (now (c .before .before .before .before .before .before .args .book)) (c .before .before .before .before .before .before .args .t3) (c .before .before .before .before .before .before .args .head) (c .before .before .before .before .before .before .pre)))
+element-copy-out-wide-3 c = omega (arith, few-routes (whole (c .before .before .before .before .before .before)))
 
 wide-requires-6 : tie.Need-wide-requires-6 Inv-loop μ-loop
 wide-requires-6 c κs = search needs
 
 mul-if3 : tie.Need-mul-if3 Inv-loop μ-loop
-mul-if3 c = record { fits = omega (arith, few-routes (whole (now (c .before .before .before .before .before .before .before .before .args .book)) (c .before .before .before .before .before .before .before .before .args .t3) (c .before .before .before .before .before .before .before .before .args .head) (c .before .before .before .before .before .before .before .before .pre)), c .before .before .wide5 .ensures .1) }
+mul-if3 c = record { fits = omega (arith, few-routes (whole (c .before .before .before .before .before .before .before .before)), c .before .before .wide5 .ensures .1) }
 
 add-if3 : tie.Need-add-if3 Inv-loop μ-loop
-add-if3 c = record { fits = omega (arith, few-routes (whole (now (c .before .before .before .before .before .before .before .before .args .book)) (c .before .before .before .before .before .before .before .before .args .t3) (c .before .before .before .before .before .before .before .before .args .head) (c .before .before .before .before .before .before .before .before .pre)), c .before .before .wide5 .ensures .1) }
+add-if3 c = record { fits = omega (arith, few-routes (whole (c .before .before .before .before .before .before .before .before)), c .before .before .wide5 .ensures .1) }
 
 mul-if3-2 : tie.Need-mul-if3-2 Inv-loop μ-loop
-mul-if3-2 c = record { fits = omega (arith, few-routes (whole (now (c .before .before .before .before .before .before .before .before .args .book)) (c .before .before .before .before .before .before .before .before .args .t3) (c .before .before .before .before .before .before .before .before .args .head) (c .before .before .before .before .before .before .before .before .pre)), c .before .before .wide5 .ensures .1) }
+mul-if3-2 c = record { fits = omega (arith, few-routes (whole (c .before .before .before .before .before .before .before .before)), c .before .before .wide5 .ensures .1) }
 
 add-if3-2 : tie.Need-add-if3-2 Inv-loop μ-loop
-add-if3-2 c = record { fits = omega (arith, few-routes (whole (now (c .before .before .before .before .before .before .before .before .args .book)) (c .before .before .before .before .before .before .before .before .args .t3) (c .before .before .before .before .before .before .before .before .args .head) (c .before .before .before .before .before .before .before .before .pre)), c .before .before .wide5 .ensures .1) }
+add-if3-2 c = record { fits = omega (arith, few-routes (whole (c .before .before .before .before .before .before .before .before)), c .before .before .wide5 .ensures .1) }
 
 refuse-requires-3 : tie.Need-refuse-requires-3 Inv-loop μ-loop
 refuse-requires-3 c κs = search needs
 
 returns-3 : tie.Need-returns-3 Inv-loop μ-loop
 returns-3 c =
-    let w = (whole (now (c .before .before .before .before .before .before .before .before .before .before .args .book)) (c .before .before .before .before .before .before .before .before .before .before .args .t3) (c .before .before .before .before .before .before .before .before .before .before .args .head) (c .before .before .before .before .before .before .before .before .before .before .pre)) in
+    let w = (whole (c .before .before .before .before .before .before .before .before .before .before)) in
     let total = c .before .before .before .before .wide5 .ensures .0 in
     let end = c .before .before .wide6 .ensures .0 in
     let runs = sym (c .before .before .before .before .before .before .before .before .wide .ensures .0) ∙ c .before .before .before .before .before .before .before .if1 .left in
@@ -164,7 +161,7 @@ returns-3 c =
 
 returns-4 : tie.Need-returns-4 Inv-loop μ-loop
 returns-4 c =
-    let w = (whole (now (c .before .before .before .before .before .before .before .before .before .before .args .book)) (c .before .before .before .before .before .before .before .before .before .before .args .t3) (c .before .before .before .before .before .before .before .before .before .before .args .head) (c .before .before .before .before .before .before .before .before .before .before .pre)) in
+    let w = (whole (c .before .before .before .before .before .before .before .before .before .before)) in
     let total = c .before .before .before .before .wide5 .ensures .0 in
     let end = c .before .before .wide6 .ensures .0 in
     let runs = sym (c .before .before .before .before .before .before .before .before .wide .ensures .0) ∙ c .before .before .before .before .before .before .before .if1 .left in
