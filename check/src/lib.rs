@@ -7,6 +7,7 @@
 pub mod book;
 pub mod book_cases;
 pub mod book_damage;
+pub mod cases;
 pub mod compare;
 pub mod damage;
 pub mod edges;

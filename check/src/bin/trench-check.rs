@@ -6,6 +6,7 @@ use std::process::ExitCode;
 
 use trench_check::book;
 use trench_check::book_damage;
+use trench_check::cases;
 use trench_check::damage::{self, Damaged};
 use trench_check::enumerate;
 use trench_check::generate::{self, KINDS};
@@ -28,6 +29,7 @@ const USAGE: &str = "\
 usage: trench-check jobs SEED COUNT      small star jobs of every kind, one a line
        trench-check figures [FILE]       the figures of each job of a file of such lines
        trench-check books [FILE]         the job book of each, in hexadecimal
+       trench-check cases                the case of every two boxes with corners on a grid of 4 x 4 points
        trench-check damaged SEED COUNT   damaged job books in hexadecimal, with the refusal that is due
        trench-check broken SEED COUNT    damaged plan books likewise
        trench-check list JOB             the listing of a job book's plan, by the independent planner
@@ -43,6 +45,10 @@ fn main() -> ExitCode {
         ["figures", file] => each_job(Some(file), figures),
         ["books"] => each_job(None, |job| book::hex(&book::job_bytes(job))),
         ["books", file] => each_job(Some(file), |job| book::hex(&book::job_bytes(job))),
+        ["cases"] => {
+            print!("{}", cases::table(4));
+            Ok(())
+        }
         ["damaged", seed, count] => {
             numbers(seed, count).map(|(seed, count)| show_damaged(seed, count, damage::WAYS, damage::damaged))
         }

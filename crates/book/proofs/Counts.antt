@@ -9,6 +9,7 @@ use lib.Dec.{eqb}
 use lib.ListN.{length, getD, drop, length-map, drop-of-length-le}
 use borrow.Author.Tests.{eq-eqb, ne-eqb, eqb-true, eqb-false, not-false}
 use Rattle.network.specs.Lists.{All}
+use Rattle.network.proofs.Tests.{neither}
 use Rattle.refusal.specs.declared.Refusal.{Refusal}
 use Rattle.refusal.specs.declared.Refusal.the-variants.{Miscounted}
 use Rattle.plan.specs.declared.Head.{Head}
@@ -40,7 +41,7 @@ use Rattle.book.specs.Parse.{
 }
 use Rattle.book.specs.Reading.{places, padded, readingOf}
 use Rattle.book.specs.Shape.{shapeBy, shapeOf, saidOf}
-use Rattle.book.proofs.Taken.{record-long, neither}
+use Rattle.book.proofs.Taken.{record-long}
 use Rattle.book.proofs.Places.{RoutesAt, Reads, rest-reads}
 use Rattle.book.proofs.Stands.{Stands, first-place, padded-place, placed}
 

@@ -10,6 +10,7 @@ use lib.Dec.{leb, ltb, eqb}
 use lib.ListN.{length, take, drop, length-take, length-drop}
 use lib.Seq.{length-take-le}
 use borrow.Author.Tests.{lt-ltb, le-ltb, leb-false, eqb-false}
+use Rattle.network.proofs.Tests.{neither}
 use Rattle.job.proofs.Prefix.{drop-take, word2-take, word4-take, by-length}
 use Rattle.refusal.specs.declared.Refusal.the-variants.{NotWhole}
 use Rattle.records.specs.declared.Record.{Record}
@@ -20,7 +21,7 @@ use Rattle.book.specs.declared.Walk.{Walk}
 use Rattle.book.specs.declared.Step.{Step}
 use Rattle.book.specs.declared.Step.the-variants as step
 use Rattle.book.specs.Parse.{start, begun, passed, cornerStep, stepBy, stepOf, withCorner, withRoute, proceed, restFrom, parseBy, parsePlan}
-use Rattle.book.proofs.Taken.{neither, Took, step-took}
+use Rattle.book.proofs.Taken.{Took, step-took}
 
 -- ---- the records of a list and of its prefix
 

@@ -1,6 +1,6 @@
 -- What a step takes from the front of the bytes: the record that stands there, whole, with what was tested of it.
 use mathlib.Core.Path.{_≡_, refl}
-use mathlib.Core.Bool.{Bool, true, false, not, _||_, true≢false}
+use mathlib.Core.Bool.{true, false, not, _||_}
 use mathlib.Core.List.{List, [], _∷_}
 use Prim.Native.Nat.{ℕ, _≤_, _<_}
 use native.Mathlib.Omega.{arith}
@@ -9,6 +9,7 @@ use lib.ListN.{length}
 use borrow.Author.Tests.{ltb-false, leb-false, eqb-false, not-false}
 use Rattle.job.specs.Fields.{biasedOf}
 use Rattle.job.proofs.Decoded.{by-test}
+use Rattle.network.proofs.Tests.{neither}
 use Rattle.records.specs.declared.Record.{Record}
 use Rattle.records.specs.declared.Record.the-variants as rec
 use Rattle.records.specs.Records.{whole, decoded, recordOf}
@@ -75,11 +76,6 @@ Took b w g (step.Route number meets said) = TookRoute b w g number meets said
 Took b w g (step.Corner c) = TookCorner b w g c
 Took b w g (step.End total) = TookEnd b g total
 Took b w g (step.Refuse x) = Unit {0}
-
--- neither of two tests holds
-pub neither : (s t : Bool) → (s || t) ≡ false → (s ≡ false) × (t ≡ false)
-neither true t e = let z : _≡_ {A = Bool} true false = e in absurd (true≢false z)
-neither false t e = (refl, e)
 
 took-by : (at : ℕ) (w : Walk) (b : List ℕ) (g : Record) → Long b g → Took b w g (stepBy at w (length b) g)
 unfolding stepBy cornerStep

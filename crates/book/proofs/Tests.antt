@@ -7,12 +7,11 @@ use lib.Dec.{leb, eqb}
 use borrow.Author.Tests.{leb-true, le-leb, eq-eqb, ne-eqb, eqb-true, eqb-false, not-true}
 use Rattle.network.specs.Plane.{Point}
 use Rattle.network.proofs.Lanes.{point-path}
-use Rattle.network.proofs.Tests.{and-split, or-split, is-false}
+use Rattle.network.proofs.Tests.{and-split, or-split, neither, is-false}
 use Rattle.book.specs.declared.Corner.{Corner}
 use Rattle.book.specs.declared.Walk.{Walk}
 use Rattle.book.specs.Parse.{pointOf, noTurn}
 use Rattle.book.specs.Right.{Joined, Turned}
-use Rattle.book.proofs.Taken.{neither}
 
 -- ---- of two tests
 

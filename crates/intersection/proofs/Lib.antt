@@ -3,5 +3,6 @@ pub mod Digits
 pub mod Lists
 pub mod Members
 pub mod Groups
+pub mod Cases
 pub mod Meetings
 pub mod Stars

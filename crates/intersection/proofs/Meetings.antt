@@ -1,39 +1,42 @@
--- The sets of neighbours, comparison by comparison; and what the comparison of two boxes says: the runs meet.
+-- The sets of neighbours, comparison by comparison; and what the case of two boxes tells: the runs meet.
 --
 -- Run 1 is compared with run 0, then run 2 with runs 0 and 1, and so on. At any moment each run k has been compared with all runs below some number
 -- (`seen`), and its set holds its neighbours below that number. A comparison of i with j < i raises the number of i from j to j + 1 and that of j
 -- from i to i + 1, so each set grows at its top, by the other run, or stays; all other sets stay. When i has passed all runs before it, it need not be
 -- compared with itself, since no run meets itself: every number is then i + 1.
-use mathlib.Core.Path.{_≡_, refl, sym, ap, ap₂, _∙_, subst}
-use mathlib.Core.Bool.{Bool, true, false, not, cond, _&&_, _||_}
+use mathlib.Core.Path.{_≡_, sym, ap, ap₂, _∙_, subst}
+use mathlib.Core.Bool.{Bool, true, false, cond, _||_}
 use mathlib.Core.Logic.{_⊎_, inl, inr}
 use mathlib.Core.List.{List}
 use Prim.Native.Nat.{ℕ, suc, _+_, _^_, _≤_, _<_, min, max}
-use native.Mathlib.Nat.{le-refl, min-comm, max-comm}
+use native.Mathlib.Nat.{le-refl}
 use native.Mathlib.Numerals.{add-one}
 use native.Mathlib.Decide.{ℕ-discrete}
 use native.Mathlib.Omega.{arith}
 use lib.Dec.{eqb, ltb}
 use lib.ListN.{length, getD, set, length-set}
 use lib.Seq.{getD-set-same, getD-set-other}
-use borrow.Author.Tests.{lt-ltb, le-ltb, eq-eqb, ne-eqb}
+use borrow.Author.Tests.{lt-ltb, le-ltb}
+use Rattle.network.specs.Plane.{Run}
 use Rattle.network.specs.Hanan.{hanan}
-use Rattle.network.specs.Graph.{runAt, meets, overlap}
-use Rattle.network.specs.Boxes.{wide, overlapping}
+use Rattle.network.specs.Graph.{runAt}
 use Rattle.network.proofs.Numbers.{order}
-use Rattle.network.proofs.Meeting.{overlap-is}
+use Rattle.network.proofs.Meeting.{meets-turned}
 use Rattle.grid.specs.Tables.{table, padded}
-use Rattle.grid.specs.Runs.{runHeld, runsHeld}
+use Rattle.grid.specs.Runs.{runsHeld}
 use Rattle.grid.proofs.Tables.{table-same, length-padded, getD-padded, getD-behind, table-held}
 use Rattle.network.specs.Entries.{length-table, getD-table}
-use Rattle.grid.proofs.Hanan.{run-at, run-placed}
+use Rattle.grid.proofs.Hanan.{length-runs, run-at}
 use Rattle.intersection.specs.declared.Sides.{Sides}
 use Rattle.intersection.specs.declared.Box.{Box}
+use Rattle.intersection.specs.declared.Case.{Case}
 use Rattle.intersection.specs.Sets.{has, pack}
+use Rattle.intersection.specs.Cases.{boxOf, Common, Makes, meeting}
 use Rattle.intersection.specs.Star.{meetsIn, neighbourSets}
-use Rattle.intersection.specs.Steps.{sidesOf, boxAt, boxesOverlap, boxesMeet, seen, partSets, Comparing}
-use Rattle.intersection.proofs.Digits.{pack-none, pack-same}
+use Rattle.intersection.specs.Steps.{sidesOf, boxAt, seen, partSets, Tells, Compared}
+use Rattle.intersection.proofs.Digits.{pack-none}
 use Rattle.intersection.proofs.Members.{pack-add, pack-skip}
+use Rattle.intersection.proofs.Cases.{meets-hanan}
 
 -- ---- how many runs a run has been compared with
 
@@ -154,87 +157,54 @@ module _ (joined : ℕ → ℕ → Bool) (i : ℕ) (few : i < 32) where
       go k l (no n) (no m) =
           getD-set-other (set t i a) j k b 0 n ∙ getD-set-other t i k a 0 m ∙ part-at j k l ∙ ap (pack (joined k)) (seen-other i j k l m n)
 
--- ---- what the comparison says
+-- ---- one comparison
 
-module _ (left right low high : List ℕ) where
-  -- two indexes: the boxes overlap
-  pub boxes-two : (i j : ℕ) → (i ≡ j → ⊥) → boxesMeet left right low high i j ≡ boxesOverlap (boxAt left right low high i) (boxAt left right low high j)
-  unfolding boxesMeet
-  boxes-two i j n = ap (λ (b : Bool). not b && boxesOverlap (boxAt left right low high i) (boxAt left right low high j)) (ne-eqb i j n)
+-- Run i is compared with run j: p and q are their boxes, c is the case of these, and t says if it is a meeting.
+module _ (box : ℕ → Box) (i j : ℕ) (later : j < i) (few : i < 32) (p q : Box) (at-i : p ≡ box i) (at-j : q ≡ box j) (c : Case) (made : Makes (Common p q) c)
+    (t : Bool) (says : t ≡ meeting c) (old : List ℕ) where
+  -- what this tells of a graph
+  tells : (joined : ℕ → ℕ → Bool) → Tells box joined i j → (joined i j ≡ t) × (joined j i ≡ t)
+  tells joined told =
+      let (m, n) = told c (rw (at-i, at-j) at made) in
+      (m ∙ sym says, n ∙ sym says)
 
-  -- one index: no
-  pub boxes-self : (i : ℕ) → boxesMeet left right low high i i ≡ false
-  unfolding boxesMeet
-  boxes-self i = ap (λ (b : Bool). not b && boxesOverlap (boxAt left right low high i) (boxAt left right low high i)) (eq-eqb i i refl)
+  -- no meeting: the sets stay
+  pub compared-apart : t ≡ false → Compared box i j old old
+  compared-apart e joined told held =
+      let (m, n) = tells joined told in
+      held ∙ part-still joined i few j later (m ∙ e) (n ∙ e)
 
-  -- either way round
-  pub boxes-turned : (i j : ℕ) → (i ≡ j → ⊥) → boxesMeet left right low high j i ≡ boxesMeet left right low high i j
-  boxes-turned i j n =
-      boxes-two j i (λ e. n (sym e))
-      ∙ (λ k.
-      wide (max-comm (getD left j 0) (getD left i 0) k) (min-comm (getD right j 0) (getD right i 0) k)
-      (max-comm (getD low j 0) (getD low i 0) k) (min-comm (getD high j 0) (getD high i 0) k))
-      ∙ sym (boxes-two i j n)
+  -- a meeting: each is put into the set of the other
+  pub compared-met : t ≡ true → (u v : ℕ) → u < 2 ^ 32 → v < 2 ^ 32
+      → ((k : ℕ) → has u k ≡ (eqb k j || has (getD old i 0) k)) → ((k : ℕ) → has v k ≡ (eqb k i || has (getD (set old i u) j 0) k))
+      → Compared box i j old (set (set old i u) j v)
+  compared-met e u v fits-u fits-v has-u has-v joined told held =
+      let (m, n) = tells joined told in
+      ap (λ (s : List ℕ). set (set s i u) j v) held
+      ∙ part-more joined i few j u v later
+      (pack-add (joined i) j (getD old i 0) u (omega arith) fits-u (m ∙ e) (ap (λ (s : List ℕ). getD s i 0) held ∙ part-later joined i few j later) has-u)
+      (pack-add (joined j) i (getD (set old i u) j 0) v few fits-v (n ∙ e)
+      (getD-set-other old i j u 0 (omega arith) ∙ ap (λ (s : List ℕ). getD s j 0) held ∙ part-earlier joined i few j later) has-v)
 
--- one comparison, of the boxes p and q, whose answer is t
-module _ (left right low high : List ℕ) (i j : ℕ) (sets : List ℕ) (c : Comparing (boxesMeet left right low high) i j sets)
-    (p q : Box) (t : Bool) (at-i : p ≡ boxAt left right low high i) (at-j : q ≡ boxAt left right low high j) (test : t ≡ boxesOverlap p q) where
-  joined : ℕ → ℕ → Bool
-  joined = boxesMeet left right low high
+-- ---- the runs of a job
 
-  -- the runs meet exactly if the answer is yes
-  outcome : (joined i j ≡ t) × (joined j i ≡ t)
-  unfolding joined
-  outcome =
-      let n : i ≡ j → ⊥ = omega (arith, c .later) in
-      let e = boxes-two left right low high i j n ∙ sym (test ∙ ap₂ boxesOverlap at-i at-j) in
-      (e, boxes-turned left right low high i j n ∙ e)
+module _ (x1 y1 x2 y2 : List ℕ) (n : ℕ) (few : n ≤ 32) (x y : Sides) (x-is : x ≡ sidesOf x1 x2) (y-is : y ≡ sidesOf y1 y2) where
+  abbrev box : ℕ → Box
+  box = boxAt (x .lower) (x .higher) (y .lower) (y .higher)
 
-  -- the boxes do not overlap: the sets stay
-  pub compared-apart : t ≡ false → sets ≡ partSets (boxesMeet left right low high) i (j + 1)
-  unfolding joined
-  compared-apart e =
-      c .held ∙ part-still joined i (c .few) j (c .later) (outcome .0 ∙ e) (outcome .1 ∙ e) ∙ ap (partSets joined i) (sym (add-one j))
-
-  -- they do: each is put into the set of the other
-  pub compared-met : t ≡ true → (a b : ℕ) → a < 2 ^ 32 → b < 2 ^ 32
-      → ((k : ℕ) → has a k ≡ (eqb k j || has (getD sets i 0) k)) → ((k : ℕ) → has b k ≡ (eqb k i || has (getD (set sets i a) j 0) k))
-      → set (set sets i a) j b ≡ partSets (boxesMeet left right low high) i (j + 1)
-  unfolding joined
-  compared-met e a b m n u v =
-      ap (λ (t : List ℕ). set (set t i a) j b) (c .held)
-      ∙ part-more joined i (c .few) j a b (c .later)
-      (pack-add (joined i) j (getD sets i 0) a (omega (arith, c .later, c .few)) m (outcome .0 ∙ e)
-      (ap (λ (t : List ℕ). getD t i 0) (c .held) ∙ part-later joined i (c .few) j (c .later)) u)
-      (pack-add (joined j) i (getD (set sets i a) j 0) b (c .few) n (outcome .1 ∙ e)
-      (getD-set-other sets i j a 0 (omega (arith, c .later)) ∙ ap (λ (t : List ℕ). getD t j 0) (c .held) ∙ part-earlier joined i (c .few) j (c .later)) v)
-      ∙ ap (partSets joined i) (sym (add-one j))
-
--- the comparison of the boxes says that the runs meet: some edge of the job's grid lies in both boxes
-module _ (x1 y1 x2 y2 : List ℕ) (n : ℕ) (few : n ≤ 32) where
-  abbrev pub boxes : ℕ → ℕ → Bool
-  boxes = boxesMeet (sidesOf x1 x2 .lower) (sidesOf x1 x2 .higher) (sidesOf y1 y2 .lower) (sidesOf y1 y2 .higher)
+  abbrev runs : List Run
+  runs = runsHeld x1 y1 x2 y2 n
 
   -- a side of a box, read from its array
   side : (f : ℕ → ℕ) (i : ℕ) → i < n → getD (table f 32) i 0 ≡ f i
   side f i h = getD-table f 32 i 0 (omega arith)
 
-  -- the runs overlap exactly if their boxes do
-  overlap-says : (i j : ℕ) → i < n → j < n → overlap (hanan (runsHeld x1 y1 x2 y2 n)) (runAt (runsHeld x1 y1 x2 y2 n) i) (runAt (runsHeld x1 y1 x2 y2 n) j)
-      ≡ overlapping (runHeld x1 y1 x2 y2 i) (runHeld x1 y1 x2 y2 j)
-  overlap-says i j h k =
-      ap₂ (overlap (hanan (runsHeld x1 y1 x2 y2 n))) (run-at x1 y1 x2 y2 n i h) (run-at x1 y1 x2 y2 n j k)
-      ∙ overlap-is (hanan (runsHeld x1 y1 x2 y2 n)) (runHeld x1 y1 x2 y2 i) (runHeld x1 y1 x2 y2 j) (run-placed x1 y1 x2 y2 n i h) (run-placed x1 y1 x2 y2 n j k)
-
-  -- two runs: the comparison of their boxes says that they meet
-  pub boxes-meet : (i j : ℕ) → i < n → j < n → boxes i j ≡ meetsIn (runsHeld x1 y1 x2 y2 n) i j
-  unfolding boxesMeet meets overlapping
-  boxes-meet i j h k =
-      ap (λ (b : Bool). not (eqb i j) && b)
-      ((λ o.
-      wide (max (side (lower x1 x2) i h o) (side (lower x1 x2) j k o)) (min (side (higher x1 x2) i h o) (side (higher x1 x2) j k o))
-      (max (side (lower y1 y2) i h o) (side (lower y1 y2) j k o)) (min (side (higher y1 y2) i h o) (side (higher y1 y2) j k o)))
-      ∙ sym (overlap-says i j h k))
+  -- the sides are those of the runs' boxes
+  box-is : (i : ℕ) → i < n → box i ≡ boxOf (runAt runs i)
+  box-is i h =
+      ap₂ (λ (a b : Sides). boxAt (a .lower) (a .higher) (b .lower) (b .higher) i) x-is y-is
+      ∙ (λ o. record { left = side (lower x1 x2) i h o; right = side (higher x1 x2) i h o; low = side (lower y1 y2) i h o; high = side (higher y1 y2) i h o })
+      ∙ sym (ap boxOf (run-at x1 y1 x2 y2 n i h))
     where
       lower : List ℕ → List ℕ → ℕ → ℕ
       lower a b i = min (getD a i 0) (getD b i 0)
@@ -242,11 +212,9 @@ module _ (x1 y1 x2 y2 : List ℕ) (n : ℕ) (few : n ≤ 32) where
       higher : List ℕ → List ℕ → ℕ → ℕ
       higher a b i = max (getD a i 0) (getD b i 0)
 
-  -- so the sets that the comparisons give are those of the runs that meet
-  pub sets-meet : (x y : Sides) → x ≡ sidesOf x1 x2 → y ≡ sidesOf y1 y2
-      → neighbourSets (boxesMeet (x .lower) (x .higher) (y .lower) (y .higher)) n ≡ neighbourSets (meetsIn (runsHeld x1 y1 x2 y2 n)) n
-  sets-meet x y p q =
-      ap₂ (λ (a b : Sides). neighbourSets (boxesMeet (a .lower) (a .higher) (b .lower) (b .higher)) n) p q
-      ∙ ap (padded 32)
-      (table-same (λ i. pack (boxes i) n) (λ i. pack (meetsIn (runsHeld x1 y1 x2 y2 n) i) n) n
-      (λ i h. pack-same (boxes i) (meetsIn (runsHeld x1 y1 x2 y2 n) i) n (λ j k. boxes-meet i j h k)))
+  -- so their cases tell which runs meet
+  pub told-meets : (i j : ℕ) → i < n → j < i → Tells box (meetsIn runs) i j
+  told-meets i j h k c m =
+      let l = length-runs x1 y1 x2 y2 n in
+      let e = meets-hanan runs i j (omega arith) (omega arith) (omega arith) c (rw (box-is i h, box-is j (omega arith)) at m) in
+      (e, meets-turned (hanan runs) runs i j ∙ e)

@@ -1,18 +1,19 @@
--- What the functions between say: boxes by their sides, the sets while the runs are compared, and the two tests of a centre. That two boxes
--- overlap in more than a point exactly if some edge of the job's grid lies in both is a law (`boxes-meet`).
+-- What the functions between say: boxes by their sides, the sets while the runs are compared, and the two tests of a centre.
 use mathlib.Core.Path.{_≡_}
 use mathlib.Core.List.{List}
-use mathlib.Core.Bool.{Bool, not, cond, _&&_, _||_}
+use mathlib.Core.Bool.{Bool, false, not, cond, _&&_, _||_}
 use Prim.Native.Nat.{ℕ, suc, _<_, min, max}
 use lib.Dec.{eqb, ltb}
 use lib.ListN.{getD}
 use Rattle.network.specs.Lists.{every}
 use Rattle.network.specs.Graph.{isCentre}
-use Rattle.network.specs.Boxes.{wide}
 use Rattle.grid.specs.Tables.{table, padded}
 use Rattle.intersection.specs.declared.Sides.{Sides}
 use Rattle.intersection.specs.declared.Box.{Box}
+use Rattle.intersection.specs.declared.Case.{Case}
 use Rattle.intersection.specs.Sets.{has, members, pack}
+use Rattle.intersection.specs.Cases.{Common, Makes, meeting}
+use Rattle.intersection.specs.Star.{neighbourSets}
 
 -- ---- boxes
 
@@ -28,14 +29,6 @@ sidesOf first second =
 abbrev pub boxAt : List ℕ → List ℕ → List ℕ → List ℕ → ℕ → Box
 boxAt left right low high i = record { left = getD left i 0; right = getD right i 0; low = getD low i 0; high = getD high i 0 }
 
--- two boxes have more than a point in common
-abbrev pub boxesOverlap : Box → Box → Bool
-boxesOverlap a b = wide (max (a .left) (b .left)) (min (a .right) (b .right)) (max (a .low) (b .low)) (min (a .high) (b .high))
-
--- the boxes at indexes i and j are two, and overlap
-unfoldable pub boxesMeet : List ℕ → List ℕ → List ℕ → List ℕ → ℕ → ℕ → Bool
-boxesMeet left right low high i j = not (eqb i j) && boxesOverlap (boxAt left right low high i) (boxAt left right low high j)
-
 -- ---- comparisons
 
 -- While run i is compared with the runs before it, and j of these are done: run k has been compared with so many runs, ..
@@ -46,11 +39,19 @@ seen i j k = cond (ltb k j) (suc i) (cond (ltb k i) i j)
 unfoldable pub partSets : (ℕ → ℕ → Bool) → ℕ → ℕ → List ℕ
 partSets joined i j = padded 32 (table (λ k. pack (joined k) (seen i j k)) (suc i))
 
--- run i is next compared with run j, which is before it
-pub record Comparing (joined : ℕ → ℕ → Bool) (i j : ℕ) (sets : List ℕ) : Type 0 where
-  pub later : j < i
-  pub few : i < 32
-  pub held : sets ≡ partSets joined i j
+-- the case of their boxes tells if i and j are joined, either way round
+abbrev pub Tells : (ℕ → Box) → (ℕ → ℕ → Bool) → ℕ → ℕ → Type 0
+Tells box joined i j = (c : Case) → Makes (Common (box i) (box j)) c → (joined i j ≡ meeting c) × (joined j i ≡ meeting c)
+
+-- what comparing run i with run j makes of the sets: of every graph of which the boxes tell, each of the two gets the other where they are joined
+abbrev pub Compared : (ℕ → Box) → ℕ → ℕ → List ℕ → List ℕ → Type 0
+Compared box i j old new = (joined : ℕ → ℕ → Bool) → Tells box joined i j → old ≡ partSets joined i j → new ≡ partSets joined i (suc j)
+
+-- and what comparing it with each run before it makes of them
+abbrev pub AllCompared : (ℕ → Box) → ℕ → List ℕ → List ℕ → Type 0
+AllCompared box i old new =
+    (joined : ℕ → ℕ → Bool) → ((j : ℕ) → j < i → Tells box joined i j) → joined i i ≡ false
+    → old ≡ neighbourSets joined i → new ≡ neighbourSets joined (suc i)
 
 -- ---- centres
 

@@ -7,8 +7,9 @@ ghost use Rattle.grid.specs.Runs.{runsHeld};
 ghost use Rattle.network.specs.Lists.{every};
 ghost use Rattle.network.specs.Graph.{below, degree, isCentre, centres};
 ghost use Rattle.intersection.specs.Sets.{members, pack};
+ghost use Rattle.intersection.specs.Cases.{Common, Makes, meeting};
 ghost use Rattle.intersection.specs.Star.{meetsIn, neighbourSets, joinedIn, starOf};
-ghost use Rattle.intersection.specs.Steps.{sidesOf, boxAt, boxesOverlap, boxesMeet, partSets, Comparing, leafOf, centreIn};
+ghost use Rattle.intersection.specs.Steps.{sidesOf, boxAt, Compared, AllCompared, leafOf, centreIn};
 
 // The sides of all runs' boxes on one axis: the lower of each run's two values, and the higher.
 pub struct Sides {
@@ -22,6 +23,14 @@ pub struct Box {
     pub right: u32,
     pub low: u32,
     pub high: u32,
+}
+
+// What two boxes have in common, as a person draws it.
+pub enum Case {
+    Apart,
+    OnePoint,
+    LinePiece,
+    Area,
 }
 
 fn box_sides(first: &[u32; 32], second: &[u32; 32]) -> Sides
@@ -52,15 +61,36 @@ fn box_at(left: &[u32; 32], right: &[u32; 32], low: &[u32; 32], high: &[u32; 32]
     }
 }
 
-// Two boxes have more than a point in common.
-fn overlap(a: Box, b: Box) -> bool
-    ensures { λ r. ⌜ r ≡ boxesOverlap a b ⌝ }
+// The case that the common points of two boxes make.
+pub fn case_of(a: Box, b: Box) -> Case
+    ensures { λ r. ⌜ Makes (Common a b) r ⌝ }
 {
     let left = grid::most(a.left, b.left);
     let right = grid::least(a.right, b.right);
     let low = grid::most(a.low, b.low);
     let high = grid::least(a.high, b.high);
-    (left <= right) & (low <= high) & ((left < right) | (low < high))
+    if (right < left) | (high < low) {
+        return Case::Apart;
+    }
+    if (left == right) & (low == high) {
+        return Case::OnePoint;
+    }
+    if (left == right) | (low == high) {
+        return Case::LinePiece;
+    }
+    Case::Area
+}
+
+// Two different runs meet whose boxes are in this case.
+fn is_meeting(case: Case) -> bool
+    ensures { λ r. ⌜ r ≡ meeting case ⌝ }
+{
+    match case {
+        Case::Apart => false,
+        Case::OnePoint => false,
+        Case::LinePiece => true,
+        Case::Area => true,
+    }
 }
 
 // Runs i and j are compared: where they meet, each is put into the set of the other.
@@ -73,12 +103,12 @@ fn compare(
     j: usize,
     neighbours: &mut [u32; 32],
 )
-    requires { ⌜ Comparing (boxesMeet (now left) (now right) (now low) (now high)) i j (now neighbours) ⌝ }
-    ensures { λ r. ⌜ now (neighbours .exit) ≡ partSets (boxesMeet (now (left .entry)) (now (right .entry)) (now (low .entry)) (now (high .entry))) i (j + 1) ⌝ }
+    requires { ⌜ (j < i) × (i < 32) ⌝ }
+    ensures { λ r. ⌜ Compared (boxAt (now (left .entry)) (now (right .entry)) (now (low .entry)) (now (high .entry))) i j (now (neighbours .entry)) (now (neighbours .exit)) ⌝ }
 {
     let a = box_at(left, right, low, high, i);
     let b = box_at(left, right, low, high, j);
-    if overlap(a, b) {
+    if is_meeting(case_of(a, b)) {
         neighbours[i] = sets::add(neighbours[i], j);
         neighbours[j] = sets::add(neighbours[j], i);
     }
@@ -93,8 +123,8 @@ fn compare_all(
     i: usize,
     neighbours: &mut [u32; 32],
 )
-    requires { ⌜ (i < 32) × (now neighbours ≡ neighbourSets (boxesMeet (now left) (now right) (now low) (now high)) i) ⌝ }
-    ensures { λ r. ⌜ now (neighbours .exit) ≡ neighbourSets (boxesMeet (now (left .entry)) (now (right .entry)) (now (low .entry)) (now (high .entry))) (i + 1) ⌝ }
+    requires { ⌜ i < 32 ⌝ }
+    ensures { λ r. ⌜ AllCompared (boxAt (now (left .entry)) (now (right .entry)) (now (low .entry)) (now (high .entry))) i (now (neighbours .entry)) (now (neighbours .exit)) ⌝ }
 {
     let mut j: usize = 0;
     while j < i {

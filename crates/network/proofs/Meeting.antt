@@ -1,24 +1,25 @@
--- When runs meet: some edge of the grid lies in both boxes, which is so exactly if the boxes overlap in more than a point by their coordinates.
+-- When runs meet: some edge of the grid lies in both boxes, which is so exactly if two points do.
 --
--- What two boxes have in common is the rectangle from the greater of the low sides to the lesser of the high sides, in x and in y. An edge in both
--- boxes lies in that rectangle and has a length, so the rectangle is more than a point. Where it is, say in x, its lower left corner is a vertex,
--- since all sides are lines of the grid; the edge from there along the row ends at the next column, which is at most the rectangle's right side.
-use mathlib.Core.Path.{_≡_, refl, sym, ap, subst}
-use mathlib.Core.Logic.{_⊎_, inl, inr, ⊎-map, ⊎-elim}
+-- The two ends of an edge in both boxes are such points. What two boxes have in common is the rectangle from the greater of the low sides to the lesser of
+-- the high sides, in x and in y. Where two points lie in it, it is longer than a point, say in x; its lower left corner is a vertex, since all sides
+-- are lines of the grid, and the edge from there along the row ends at the next column, which is at most the rectangle's right side.
+use mathlib.Core.Path.{_≡_, refl, sym, ap, ap₂, subst}
 use mathlib.Core.List.{List}
-use mathlib.Core.Bool.{true, false, not, _&&_, _||_, and-comm}
+use mathlib.Core.Bool.{Bool, true, false, not, _&&_, and-comm}
 use Prim.Native.Nat.{ℕ, suc, _≤_, _<_, min, max}
 use native.Mathlib.Nat.{le-of-eq, le-trans, le-min, max-le, min-le-left, min-le-right, le-max-left, le-max-right}
+use native.Mathlib.Decide.{ℕ-discrete}
 use native.Mathlib.Omega.{arith}
-use borrow.Author.Tests.{leb-true, ltb-true, le-leb, lt-ltb, eqb-false, eq-eqb, ne-eqb, not-true}
-use lib.Dec.{leb, ltb, eqb}
+use borrow.Author.Tests.{eqb-true, eqb-false, eq-eqb, ne-eqb, not-true}
+use lib.Dec.{eqb}
 use lib.ListN.{length, getD}
 use Rattle.network.specs.Plane.{Point, Run, _to_}
 use Rattle.network.specs.Grid.{Rising, Grid, Edge, acrossAt, upwardAt, edges, inside}
 use Rattle.network.specs.Route.{Listed}
 use Rattle.network.specs.Graph.{overlap, runAt, meets}
-use Rattle.network.specs.Boxes.{commonLow, commonHigh, wide, overlapping, Placed}
-use Rattle.network.proofs.Tests.{and-split, and-join, or-split, or-join, is-false, same-test, Spans, true-inside, inside-true}
+use Rattle.network.specs.Steps.{vertex}
+use Rattle.network.specs.Boxes.{Placed}
+use Rattle.network.proofs.Tests.{and-split, and-join, is-false, same-test, Spans, Within, true-inside, inside-true}
 use Rattle.network.proofs.Lists.{any-cong}
 use Rattle.network.proofs.Rising.{next-line, listed-max, listed-min}
 use Rattle.network.proofs.Edges.{OfGrid, across-of, upward-of, edges-any, any-edges}
@@ -43,7 +44,14 @@ pub overlap-comm : (g : Grid) (r s : Run) → overlap g r s ≡ overlap g s r
 unfolding overlap
 overlap-comm g r s = any-cong _ _ (edges g) (λ e m. and-comm (inside e r) (inside e s))
 
--- ---- the same by coordinates
+-- ---- the same by points
+
+-- what two stretches have in common starts here, and ends there
+abbrev commonLow : ℕ → ℕ → ℕ → ℕ → ℕ
+commonLow a b c d = max (min a b) (min c d)
+
+abbrev commonHigh : ℕ → ℕ → ℕ → ℕ → ℕ
+commonHigh a b c d = min (max a b) (max c d)
 
 -- a stretch is in both of two others exactly if it is in what they have in common
 spans-both : {a b c d lo hi : ℕ} → Spans a b lo hi → Spans c d lo hi → (commonLow a b c d ≤ lo) × (hi ≤ commonHigh a b c d)
@@ -56,20 +64,16 @@ both-spans a b c d h k = (
   record { low = le-trans (le-max-right (min a b) (min c d)) h; high = le-trans k (min-le-right (max a b) (max c d)) },
 )
 
--- the test as facts, and back
-wide-true : (lx hx ly hy : ℕ) → wide lx hx ly hy ≡ true → (lx ≤ hx) × (ly ≤ hy) × ((lx < hx) ⊎ (ly < hy))
-unfolding wide
-wide-true lx hx ly hy h =
-    let (i, j) = and-split (leb lx hx && leb ly hy) (ltb lx hx || ltb ly hy) h in
-    let (k, l) = and-split (leb lx hx) (leb ly hy) i in
-    (leb-true lx hx k, leb-true ly hy l, ⊎-map (ltb-true lx hx) (ltb-true ly hy) (or-split (ltb lx hx) (ltb ly hy) j))
+-- a number in both stretches is in what they have in common
+one-in : {a b c d p : ℕ} → Spans a b p p → Spans c d p p → commonLow a b c d ≤ commonHigh a b c d
+one-in s t = let (h, k) = spans-both s t in le-trans h k
 
--- and back
-true-wide : (lx hx ly hy : ℕ) → lx ≤ hx → ly ≤ hy → (lx < hx) ⊎ (ly < hy) → wide lx hx ly hy ≡ true
-unfolding wide
-true-wide lx hx ly hy h k l =
-    and-join (leb lx hx && leb ly hy) (ltb lx hx || ltb ly hy) (and-join (leb lx hx) (leb ly hy) (le-leb lx hx h) (le-leb ly hy k))
-    (or-join (ltb lx hx) (ltb ly hy) (⊎-map (lt-ltb lx hx) (lt-ltb ly hy) l))
+-- which is longer where there are two
+two-in : {a b c d p q : ℕ} → Spans a b p p → Spans c d p p → Spans a b q q → Spans c d q q → (p ≡ q → ⊥) → commonLow a b c d < commonHigh a b c d
+two-in s t s′ t′ n = longer (spans-both s t) (spans-both s′ t′) n
+  where
+    longer : {l h p q : ℕ} → (l ≤ p) × (p ≤ h) → (l ≤ q) × (q ≤ h) → (p ≡ q → ⊥) → l < h
+    longer i j n = omega arith
 
 -- where two stretches between lines of the grid have one line in common, or a stretch between two neighbouring lines
 module _ (l : List ℕ) (a b c d : ℕ) (h : Listed l a) (i : Listed l b) (j : Listed l c) (k : Listed l d) where
@@ -97,46 +101,60 @@ module _ (l : List ℕ) (a b c d : ℕ) (h : Listed l a) (i : Listed l b) (j : L
       let (s, t) = both-spans a b c d (le-of-eq (sym e)) q in
       (n, p, s, t)
 
--- boxes with an edge in common overlap
-pub edge-overlapping : (g : Grid) (r s : Run) (e : Edge) → OfGrid g e → inside e r ≡ true → inside e s ≡ true → overlapping r s ≡ true
-unfolding overlapping
-edge-overlapping g r s e (across-of i j m n) h k =
-    let (a, b) = inside-true (acrossAt g i j) r h in
-    let (c, d) = inside-true (acrossAt g i j) s k in
-    let x = spans-both a c in
-    let y = spans-both b d in
-    true-wide _ _ _ _ (omega (arith, x, g .columns-rise i m)) (omega (arith, y)) (inl (omega (arith, x, g .columns-rise i m)))
-edge-overlapping g r s e (upward-of i j m n) h k =
-    let (a, b) = inside-true (upwardAt g i j) r h in
-    let (c, d) = inside-true (upwardAt g i j) s k in
-    let x = spans-both a c in
-    let y = spans-both b d in
-    true-wide _ _ _ _ (omega (arith, x)) (omega (arith, y, g .rows-rise j n)) (inr (omega (arith, y, g .rows-rise j n)))
+-- the point lies in both boxes
+abbrev pub InBoth : Run → Run → Point → Type 0
+InBoth r s p = Within p r × Within p s
 
--- boxes that overlap have an edge in common
-pub overlapping-edge : (g : Grid) (r s : Run) → Placed g r → Placed g s → overlapping r s ≡ true → overlap g r s ≡ true
-unfolding overlapping
-overlapping-edge g r s u v h =
-    let line-x = common-line (g .columns) _ _ _ _ (u .first-vertex .column) (u .second-vertex .column) (v .first-vertex .column) (v .second-vertex .column) in
-    let line-y = common-line (g .rows) _ _ _ _ (u .first-vertex .row) (u .second-vertex .row) (v .first-vertex .row) (v .second-vertex .row) in
-    let stretch-x = common-stretch (g .columns) _ _ _ _ (u .first-vertex .column) (u .second-vertex .column) (v .first-vertex .column) (v .second-vertex .column) in
-    let stretch-y = common-stretch (g .rows) _ _ _ _ (u .first-vertex .row) (u .second-vertex .row) (v .first-vertex .row) (v .second-vertex .row) in
-    let (p, q, c) = wide-true _ _ _ _ h in
-    ⊎-elim
-    (λ o. let (i, m, a, b) = stretch-x (g .columns-rise) o in
-    let (j, n, a′, b′) = line-y q in
-    edge-overlap g r s (acrossAt g i j) (across-of i j m n) (true-inside (acrossAt g i j) r (a, a′)) (true-inside (acrossAt g i j) s (b, b′)))
-    (λ o. let (i, m, a, b) = line-x p in
-    let (j, n, a′, b′) = stretch-y (g .rows-rise) o in
-    edge-overlap g r s (upwardAt g i j) (upward-of i j m n) (true-inside (upwardAt g i j) r (a, a′)) (true-inside (upwardAt g i j) s (b, b′)))
-    c
+-- points are two where one of their coordinates differs
+apart-in-x : (p q : Point) → p .x < q .x → p ≡ q → ⊥
+apart-in-x p q h e = omega (arith, ap (λ (z : Point). z .x) e)
 
--- so for every grid on which two runs are placed, an edge of the grid in both boxes is the same as an overlap of the boxes
-pub overlap-is : (g : Grid) (r s : Run) → Placed g r → Placed g s → overlap g r s ≡ overlapping r s
-overlap-is g r s u v =
-    same-test (overlap g r s) (overlapping r s)
-    (λ h. let (e, o, i, j) = overlap-edge g r s h in edge-overlapping g r s e o i j)
-    (overlapping-edge g r s u v)
+apart-in-y : (p q : Point) → p .y < q .y → p ≡ q → ⊥
+apart-in-y p q h e = omega (arith, ap (λ (z : Point). z .y) e)
+
+-- an edge in both boxes has two ends, which lie in both
+pub overlap-two : (g : Grid) (r s : Run) → overlap g r s ≡ true → (p : Point) × (q : Point) × (p ≡ q → ⊥) × InBoth r s p × InBoth r s q
+overlap-two g r s h =
+    let (e, o, i, j) = overlap-edge g r s h in
+    ends e o i j
+  where
+    ends : (e : Edge) → OfGrid g e → inside e r ≡ true → inside e s ≡ true → (p : Point) × (q : Point) × (p ≡ q → ⊥) × InBoth r s p × InBoth r s q
+    ends e (across-of i j m n) h k =
+        let a = inside-true (acrossAt g i j) r h in
+        let b = inside-true (acrossAt g i j) s k in
+        let up = g .columns-rise i m in
+        let p = vertex g i j in
+        let q = vertex g (suc i) j in
+        (p, q, apart-in-x p q up, (omega arith, omega arith), (omega arith, omega arith))
+    ends e (upward-of i j m n) h k =
+        let a = inside-true (upwardAt g i j) r h in
+        let b = inside-true (upwardAt g i j) s k in
+        let up = g .rows-rise j n in
+        let p = vertex g i j in
+        let q = vertex g i (suc j) in
+        (p, q, apart-in-y p q up, (omega arith, omega arith), (omega arith, omega arith))
+
+-- two points lie in both boxes, and the runs are placed: the boxes have an edge in common
+pub two-overlap : (g : Grid) (r s : Run) → Placed g r → Placed g s → (p q : Point) → (p ≡ q → ⊥) → InBoth r s p → InBoth r s q → overlap g r s ≡ true
+two-overlap g r s u v p q d a b = go (ℕ-discrete (p .x) (q .x)) (ℕ-discrete (p .y) (q .y))
+  where
+    go : Dec (p .x ≡ q .x) → Dec (p .y ≡ q .y) → overlap g r s ≡ true
+    go (no x) y =
+        let (i, m, h, k) =
+        common-stretch (g .columns) _ _ _ _ (u .first-vertex .column) (u .second-vertex .column) (v .first-vertex .column) (v .second-vertex .column) (g .columns-rise)
+        (two-in (a .0 .0) (a .1 .0) (b .0 .0) (b .1 .0) x) in
+        let (j, n, h′, k′) =
+        common-line (g .rows) _ _ _ _ (u .first-vertex .row) (u .second-vertex .row) (v .first-vertex .row) (v .second-vertex .row) (one-in (a .0 .1) (a .1 .1)) in
+        edge-overlap g r s (acrossAt g i j) (across-of i j m n) (true-inside (acrossAt g i j) r (h, h′)) (true-inside (acrossAt g i j) s (k, k′))
+    go (yes x) (no y) =
+        let (i, m, h, k) =
+        common-line (g .columns) _ _ _ _ (u .first-vertex .column) (u .second-vertex .column) (v .first-vertex .column) (v .second-vertex .column)
+        (one-in (a .0 .0) (a .1 .0)) in
+        let (j, n, h′, k′) =
+        common-stretch (g .rows) _ _ _ _ (u .first-vertex .row) (u .second-vertex .row) (v .first-vertex .row) (v .second-vertex .row) (g .rows-rise)
+        (two-in (a .0 .1) (a .1 .1) (b .0 .1) (b .1 .1) y) in
+        edge-overlap g r s (upwardAt g i j) (upward-of i j m n) (true-inside (upwardAt g i j) r (h, h′)) (true-inside (upwardAt g i j) s (k, k′))
+    go (yes x) (yes y) = absurd (d (λ i. record { x = x i; y = y i }))
 
 -- ---- runs by their numbers
 
@@ -152,16 +170,18 @@ pub true-meets : (g : Grid) (runs : List Run) (i j : ℕ) → (i ≡ j → ⊥) 
 unfolding meets
 true-meets g runs i j n o = rw (ne-eqb i j n) o
 
--- by coordinates, on every grid on which both are placed
-pub meets-is : (g : Grid) (runs : List Run) (i j : ℕ) → Placed g (runAt runs i) → Placed g (runAt runs j)
-    → meets g runs i j ≡ (not (eqb i j) && overlapping (runAt runs i) (runAt runs j))
-unfolding meets
-meets-is g runs i j u v = ap (λ t. not (eqb i j) && t) (overlap-is g (runAt runs i) (runAt runs j) u v)
-
--- no run meets itself, and meeting goes both ways
+-- no run meets itself
 pub meets-self : (g : Grid) (runs : List Run) (i : ℕ) → meets g runs i i ≡ false
 unfolding meets
 meets-self g runs i = rw (eq-eqb i i refl)
+
+-- and meeting goes both ways
+pub meets-turned : (g : Grid) (runs : List Run) (i j : ℕ) → meets g runs j i ≡ meets g runs i j
+unfolding meets
+meets-turned g runs i j = ap₂ (λ (a b : Bool). not a && b) (same-test (eqb j i) (eqb i j) (turn j i) (turn i j)) (overlap-comm g (runAt runs j) (runAt runs i))
+  where
+    turn : (a b : ℕ) → eqb a b ≡ true → eqb b a ≡ true
+    turn a b h = eq-eqb b a (sym (eqb-true a b h))
 
 -- a run whose points coincide meets nothing
 point-inside : (g : Grid) (p : Point) (e : Edge) → OfGrid g e → inside e (p to p) ≡ true → ⊥

@@ -19,9 +19,9 @@ use Rattle.network.specs.Route.{Route, Vertex, Straight, Manhattan, on, 
 use Rattle.network.specs.Excess.{excess, shared}
 use Rattle.network.specs.Steps.{Dir, hor, ver}
 use Rattle.network.specs.Slopes.{Slope, opposite, slopes}
-use Rattle.network.specs.Boxes.{Placed}
-use Rattle.network.specs.Sharable.{within, Sharable}
-use Rattle.network.proofs.Tests.{and-split, and-join, or-join, Spans, spans-true}
+use Rattle.network.specs.Boxes.{within, Placed}
+use Rattle.network.specs.Sharable.{Sharable}
+use Rattle.network.proofs.Tests.{and-split, and-join, or-join, Spans, within-true}
 use Rattle.network.proofs.Sums.{sum-cong, sum-le}
 use Rattle.network.proofs.Numbers.{order, Between, rise, fall, gap-self}
 use Rattle.network.proofs.Edges.{OfGrid, edge-of}
@@ -68,13 +68,6 @@ shared-above g p q r h k = sum-le _ _ (edges g) (λ e m. all (on e r) e refl)
     all false e i = omega arith
 
 -- ---- the way through a leaf's box
-
--- the test as facts
-within-true : (p : Point) (r : Run) → within p r ≡ true → Spans (r .first .x) (r .second .x) (p .x) (p .x) × Spans (r .first .y) (r .second .y) (p .y) (p .y)
-unfolding within
-within-true p r h =
-    let (i, j) = and-split (spans (r .first .x) (r .second .x) (p .x) (p .x)) (spans (r .first .y) (r .second .y) (p .y) (p .y)) h in
-    (spans-true (r .first .x) (r .second .x) (p .x) (p .x) i, spans-true (r .first .y) (r .second .y) (p .y) (p .y) j)
 
 -- the way from a to z passes p, then q
 way-up : {a z p q : ℕ} → a ≤ z → Spans a z p p → Spans a z q q → p ≤ q → Between a p q × Between a q z

@@ -10,6 +10,7 @@ use lib.Dec.{leb, eqb}
 use Rattle.network.specs.Plane.{Point, Run, _to_}
 use Rattle.network.specs.Grid.{Edge, across, upward, spans, inside}
 use Rattle.network.specs.Route.{level, lies}
+use Rattle.network.specs.Boxes.{within}
 
 -- ---- truth values
 
@@ -33,6 +34,11 @@ pub or-join : (a b : Bool) → (a ≡ true) ⊎ (b ≡ true) → a || b ≡ true
 or-join true b h = refl
 or-join false b (inl h) = absurd (false≢true h)
 or-join false b (inr h) = h
+
+-- a disjunction fails where both do
+pub neither : (a b : Bool) → a || b ≡ false → (a ≡ false) × (b ≡ false)
+neither true b h = absurd (false≢true (sym h))
+neither false b h = (refl, h)
 
 -- the two outcomes of a test
 pub outcome : (a : Bool) → (a ≡ true) ⊎ (a ≡ false)
@@ -146,6 +152,19 @@ true-inside (upward x y y′) r h =
     and-join (spans (r .first .x) (r .second .x) x x) (spans (r .first .y) (r .second .y) y y′)
     (true-spans (r .first .x) (r .second .x) x x (h .0))
     (true-spans (r .first .y) (r .second .y) y y′ (h .1))
+
+-- ---- a point in a box
+
+-- what `within` tests
+abbrev pub Within : Point → Run → Type 0
+Within p r = Spans (r .first .x) (r .second .x) (p .x) (p .x) × Spans (r .first .y) (r .second .y) (p .y) (p .y)
+
+-- the test says exactly that
+pub within-true : (p : Point) (r : Run) → within p r ≡ true → Within p r
+unfolding within
+within-true p r h =
+    let (i, j) = and-split (spans (r .first .x) (r .second .x) (p .x) (p .x)) (spans (r .first .y) (r .second .y) (p .y) (p .y)) h in
+    (spans-true (r .first .x) (r .second .x) (p .x) (p .x) i, spans-true (r .first .y) (r .second .y) (p .y) (p .y) j)
 
 -- ---- a piece turned round has the same edges on it
 

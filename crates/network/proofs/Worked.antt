@@ -13,8 +13,8 @@ use Rattle.network.specs.Graph.{overlap, meets, below, degree, isCentre,
 use Rattle.network.specs.Excess.{excess}
 use Rattle.network.specs.Corners.{samePoint, straightOn, corners}
 use Rattle.network.specs.Slopes.{flipped, slopes}
-use Rattle.network.specs.Boxes.{wide, overlapping}
-use Rattle.network.specs.Sharable.{within, Sharable}
+use Rattle.network.specs.Boxes.{within}
+use Rattle.network.specs.Sharable.{Sharable}
 use Rattle.network.proofs.Counting.{least-of-most}
 use Rattle.network.proofs.Making.{bent, bent-manhattan}
 use Rattle.network.proofs.Turned.{turned-manhattan}
@@ -159,14 +159,10 @@ touching-meets : degree (meets (hanan touching) touching) (below 3) 0 ≡ 2
 unfolding degree meets overlap edges distinct insert inside spans
 touching-meets = refl
 
--- fourth trap: a common corner is no meeting, by edges and by coordinates
+-- fourth trap: a common corner is no meeting
 corner : jobCentres (run 0 0 3 3 ∷ run 3 3 5 5 ∷ []) 2 ≡ []
 unfolding centres isCentre meets overlap edges distinct insert inside spans
 corner = refl
-
-corner-apart : overlapping (run 0 0 3 3) (run 3 3 5 5) ≡ false
-unfolding overlapping wide
-corner-apart = refl
 
 -- nor is a crossing of two lines
 cross : jobCentres (run 0 2 4 2 ∷ run 2 0 2 4 ∷ []) 2 ≡ []

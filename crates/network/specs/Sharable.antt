@@ -1,15 +1,10 @@
 -- The longest sharable length of a leaf l and the stretch v on which the centre passes l's box (01, Routes and sharing; γ in 000, 3.1).
 use mathlib.Core.Path.{_≡_}
-use mathlib.Core.Bool.{Bool, _&&_}
 use Prim.Native.Nat.{ℕ, _≤_}
-use Rattle.network.specs.Plane.{Point, Run}
-use Rattle.network.specs.Grid.{Grid, spans}
+use Rattle.network.specs.Plane.{Run}
+use Rattle.network.specs.Grid.{Grid}
 use Rattle.network.specs.Route.{Route, Manhattan}
 use Rattle.network.specs.Excess.{shared}
-
--- the point lies in the run's box
-unfoldable pub within : Point → Run → Bool
-within p r = spans (r .first .x) (r .second .x) (p .x) (p .x) && spans (r .first .y) (r .second .y) (p .y) (p .y)
 
 -- n is the greatest length that a Manhattan path of l and one of v share
 pub record Sharable (g : Grid) (l v : Run) (n : ℕ) : Type 0 where

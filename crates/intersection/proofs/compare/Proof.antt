@@ -1,4 +1,5 @@
--- Where the boxes overlap, both sets grow by one number; else they stay.
+-- Where the case of the boxes is a meeting, both sets grow by one number; else they stay.
+use Rattle.intersection.specs.Steps.{boxAt}
 use Rattle.intersection.proofs.Meetings.{compared-met, compared-apart}
 use borrow.Author.Needs.{needs}
 use Rattle.intersection.proofs.compare.Statement.{statement}
@@ -10,8 +11,11 @@ box-at-requires c κs = search needs
 box-at-requires-2 : tie.Need-box-at-requires-2
 box-at-requires-2 c κs = search needs
 
-overlap-requires : tie.Need-overlap-requires
-overlap-requires c κs = search needs
+case-of-requires : tie.Need-case-of-requires
+case-of-requires c κs = search needs
+
+is-meeting-requires : tie.Need-is-meeting-requires
+is-meeting-requires c κs = search needs
 
 mul-add : tie.Need-mul-add
 mul-add c = search needs
@@ -45,20 +49,22 @@ element-write-neighbours-2 c = search needs
 
 returns : tie.Need-returns
 returns c =
-    let s = c .before .before .before .before .before .before .before .before in
-    let a = s .args in
     let t = c .before .before .before .before .before in
-    compared-met (a .left .now) (a .right .now) (a .low .now) (a .high .now) (a .i) (a .j) (a .neighbours .now) (s .pre) _ _ _
-    (t .before .before .box-at .ensures) (t .before .box-at2 .ensures) (t .overlap .ensures) (c .before .before .before .before .if1 .taken)
+    let s = t .before .before .before .before in
+    let a = s .args in
+    compared-met (boxAt (a .left .now) (a .right .now) (a .low .now) (a .high .now)) (a .i) (a .j) (s .pre .0) (s .pre .1) _ _ (t .before .before .before .box-at .ensures) (t .before .before .box-at2 .ensures)
+    (t .before .case-of .result) (t .before .case-of .ensures) _
+    (t .is-meeting .ensures) (a .neighbours .now) (c .before .before .before .before .if1 .taken)
     _ _ (c .before .before .add .ok) (c .add2 .ok) (c .before .before .add .ensures) (c .add2 .ensures)
 
 returns-2 : tie.Need-returns-2
 returns-2 c =
-    let s = c .before .before .before .before in
-    let a = s .args in
     let t = c .before in
-    compared-apart (a .left .now) (a .right .now) (a .low .now) (a .high .now) (a .i) (a .j) (a .neighbours .now) (s .pre) _ _ _
-    (t .before .before .box-at .ensures) (t .before .box-at2 .ensures) (t .overlap .ensures) (c .if1 .left)
+    let s = t .before .before .before .before in
+    let a = s .args in
+    compared-apart (boxAt (a .left .now) (a .right .now) (a .low .now) (a .high .now)) (a .i) (a .j) (s .pre .0) (s .pre .1) _ _ (t .before .before .before .box-at .ensures) (t .before .before .box-at2 .ensures)
+    (t .before .case-of .result) (t .before .case-of .ensures) _
+    (t .is-meeting .ensures) (a .neighbours .now) (c .if1 .left)
 
 pub compare-spec : {M : Type 1} → statement M
 compare-spec =
@@ -66,7 +72,8 @@ compare-spec =
     (tie.spec
     box-at-requires
     box-at-requires-2
-    overlap-requires
+    case-of-requires
+    is-meeting-requires
     mul-add
     element-copy-out-add
     add-requires

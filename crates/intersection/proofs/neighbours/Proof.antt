@@ -1,16 +1,19 @@
--- The invariant: the first i runs have been compared with each other.
-use mathlib.Core.Path.{_≡_, refl, ap, _∙_}
-use Prim.Native.Nat.{_≤_, _-_}
+-- The invariant: the first i runs have been compared with each other. The cases of their boxes tell which of them meet.
+use mathlib.Core.Path.{_≡_, refl, sym, ap, _∙_}
+use Prim.Native.Nat.{_≤_, _<_, _-_}
+use native.Mathlib.Numerals.{add-one}
 use native.Mathlib.Omega.{arith}
 use borrow.Author.Needs.{needs}
-use Rattle.intersection.specs.Star.{neighbourSets}
-use Rattle.intersection.specs.Steps.{boxesMeet}
-use Rattle.intersection.proofs.Meetings.{sets-meet}
+use Rattle.network.specs.Hanan.{hanan}
+use Rattle.network.proofs.Meeting.{meets-self}
+use Rattle.grid.specs.Runs.{runsHeld}
+use Rattle.intersection.specs.Star.{meetsIn, neighbourSets}
+use Rattle.intersection.proofs.Meetings.{told-meets}
 use Rattle.intersection.proofs.neighbours.Statement.{statement}
 use Rattle.intersection.proofs.neighbours.Tie as tie
 
 abbrev Inv-loop : tie.InvT-loop
-Inv-loop x1 y1 x2 y2 n left right low high sets₀ i₀ sets i = (i ≤ n) × (sets ≡ neighbourSets (boxesMeet left right low high) i)
+Inv-loop x1 y1 x2 y2 n left right low high sets₀ i₀ sets i = (i ≤ n) × (sets ≡ neighbourSets (meetsIn (runsHeld x1 y1 x2 y2 n)) i)
 
 abbrev μ-loop : tie.MeasureT-loop
 μ-loop x1 y1 x2 y2 n left right low high sets₀ i₀ sets i = n - i
@@ -25,7 +28,7 @@ loop-holds : tie.Need-loop-holds Inv-loop μ-loop
 loop-holds c = (omega arith, refl)
 
 compare-all-requires : tie.Need-compare-all-requires Inv-loop μ-loop
-compare-all-requires c κs = (omega arith, c .before .before .before .before .before .before .loop .inv .1)
+compare-all-requires c κs = omega arith
 
 add-i : tie.Need-add-i Inv-loop μ-loop
 add-i c = omega arith
@@ -34,17 +37,26 @@ loop-less : tie.Need-loop-less Inv-loop μ-loop
 loop-less c = omega arith
 
 loop-again : tie.Need-loop-again Inv-loop μ-loop
-loop-again c = (omega arith, c .compare-all .ensures)
+loop-again c =
+    let l = c .before .before .before .before .before .before .before .loop in
+    let b = c .before .before .before .before .before .before .before .before .before .before .before .before in
+    let s = b .before .before in
+    let a = s .args in
+    let runs = runsHeld (a .x1 .now) (a .y1 .now) (a .x2 .now) (a .y2 .now) (a .n) in
+    let e : l .i < a .n = omega arith in (
+      omega arith,
+      c .compare-all .ensures (meetsIn runs)
+          (λ j h. told-meets (a .x1 .now) (a .y1 .now) (a .x2 .now) (a .y2 .now) (a .n) (s .pre) _ _ (b .before .box-sides .ensures) (b .box-sides2 .ensures) (l .i) j e h)
+          (meets-self (hanan runs) runs (l .i)) (l .inv .1)
+          ∙ ap (neighbourSets (meetsIn runs)) (sym (add-one (l .i))),
+    )
 
 returns : tie.Need-returns Inv-loop μ-loop
 returns c =
-    let s = c .before .before .before .before .before .before .before .before in
-    let a = s .args in
-    let b = c .before .before .before .before .before .before in
     let l = c .before .loop in
+    let a = c .before .before .before .before .before .before .before .before .args in
     let e : l .i ≡ a .n = omega arith in
-    l .inv .1 ∙ ap (neighbourSets (boxesMeet _ _ _ _)) e
-    ∙ sets-meet (a .x1 .now) (a .y1 .now) (a .x2 .now) (a .y2 .now) (a .n) (s .pre) _ _ (b .before .box-sides .ensures) (b .box-sides2 .ensures)
+    l .inv .1 ∙ ap (neighbourSets (meetsIn (runsHeld (a .x1 .now) (a .y1 .now) (a .x2 .now) (a .y2 .now) (a .n)))) e
 
 pub neighbours-spec : {M : Type 1} → statement M
 neighbours-spec =
