@@ -1,4 +1,4 @@
--- The cases of two boxes: no points make two of them, the common points of two boxes make one, and two different runs meet exactly in the last two.
+-- The cases of two boxes: any points make at most one of them, the common points of two boxes make one, and two different runs meet exactly in the last two.
 --
 -- What two boxes have in common is the rectangle from the greater of their left sides to the lesser of their right sides, and from the greater of their low
 -- sides to the lesser of their high ones. It has no point where a side has passed the other; else its lower left corner and its upper right corner are
@@ -26,7 +26,7 @@ use Rattle.intersection.specs.declared.Case.{Case}
 use Rattle.intersection.specs.declared.Case.the-variants.{Apart, OnePoint, LinePiece, Area}
 use Rattle.intersection.specs.Cases.{boxOf, Common, OneRow, OneColumn, Makes, meeting}
 
--- ---- no points make two cases
+-- ---- any points make at most one case
 
 module _ (P : Point → Type 0) where
   -- a single point and two points
@@ -38,7 +38,7 @@ module _ (P : Point → Type 0) where
   line-area (m, inl row) (p, q, h, k, x, y) = y (row p q h k)
   line-area (m, inr column) (p, q, h, k, x, y) = x (column p q h k)
 
-  -- so they make one case at most
+  -- so no two cases are made
   one-case : (c d : Case) → Makes P c → Makes P d → c ≡ d
   one-case Apart Apart m n = refl
   one-case Apart OnePoint m (p, h, u) = absurd (m p h)
