@@ -105,12 +105,9 @@ module _ (l : List ℕ) (a b c d : ℕ) (h : Listed l a) (i : Listed l b) (j : L
 abbrev pub InBoth : Run → Run → Point → Type 0
 InBoth r s p = Within p r × Within p s
 
--- points are two where one of their coordinates differs
-apart-in-x : (p q : Point) → p .x < q .x → p ≡ q → ⊥
-apart-in-x p q h e = omega (arith, ap (λ (z : Point). z .x) e)
-
-apart-in-y : (p q : Point) → p .y < q .y → p ≡ q → ⊥
-apart-in-y p q h e = omega (arith, ap (λ (z : Point). z .y) e)
+-- points are two where a coordinate differs
+two-by : (f : Point → ℕ) (p q : Point) → f p < f q → p ≡ q → ⊥
+two-by f p q h e = omega (arith, ap f e)
 
 -- an edge in both boxes has two ends, which lie in both
 pub overlap-two : (g : Grid) (r s : Run) → overlap g r s ≡ true → (p : Point) × (q : Point) × (p ≡ q → ⊥) × InBoth r s p × InBoth r s q
@@ -125,14 +122,14 @@ overlap-two g r s h =
         let up = g .columns-rise i m in
         let p = vertex g i j in
         let q = vertex g (suc i) j in
-        (p, q, apart-in-x p q up, (omega arith, omega arith), (omega arith, omega arith))
+        (p, q, two-by (λ z. z .x) p q up, (omega arith, omega arith), (omega arith, omega arith))
     ends e (upward-of i j m n) h k =
         let a = inside-true (upwardAt g i j) r h in
         let b = inside-true (upwardAt g i j) s k in
         let up = g .rows-rise j n in
         let p = vertex g i j in
         let q = vertex g i (suc j) in
-        (p, q, apart-in-y p q up, (omega arith, omega arith), (omega arith, omega arith))
+        (p, q, two-by (λ z. z .y) p q up, (omega arith, omega arith), (omega arith, omega arith))
 
 -- two points lie in both boxes, and the runs are placed: the boxes have an edge in common
 pub two-overlap : (g : Grid) (r s : Run) → Placed g r → Placed g s → (p q : Point) → (p ≡ q → ⊥) → InBoth r s p → InBoth r s q → overlap g r s ≡ true
