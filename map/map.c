@@ -271,7 +271,7 @@ static void lay_cables(const struct plan *plan, const struct grid *grid, bool ro
 /* ---- drawing ---- */
 
 /* Pixels. No decimetre is drawn wider than WIDEST. */
-enum { MARGIN = 70, MAP_WIDTH = 860, MAP_HEIGHT = 560, LEAST_WIDTH = 400, WIDEST = 100, FOOT = 112, REACH = 22 };
+enum { MARGIN = 70, MAP_WIDTH = 860, MAP_HEIGHT = 560, LEAST_WIDTH = 400, WIDEST = 100, FOOT = 134, REACH = 22 };
 
 /* Where the map stands on the sheet: decimetres to pixels, north up. */
 struct view {
@@ -318,7 +318,7 @@ static void draw_style(void)
          ".two { stroke: #d07f35; stroke-width: 10 }\n"
          ".more { stroke: #8c4a12; stroke-width: 14 }\n"
          ".centre { fill: none; stroke: #0b3f91; stroke-width: 2; stroke-linejoin: round }\n"
-         ".pit { fill: #fff; stroke: #222; stroke-width: 1.5 }\n"
+         ".pit, .crossing { fill: #fff; stroke: #222; stroke-width: 1.5 }\n"
          ".end { fill: #222 }\n"
          ".end.of-centre { fill: #0b3f91 }\n"
          ".label { font-weight: bold }\n"
@@ -412,6 +412,7 @@ static bool is_new(const struct plan *plan, unsigned i, unsigned k)
     return true;
 }
 
+/* The pits where cables end or turn. */
 static void draw_pits(const struct plan *plan, const struct view *v)
 {
     for (unsigned i = 0; i < plan->runs; i++)
@@ -421,6 +422,62 @@ static void draw_pits(const struct plan *plan, const struct view *v)
                 printf("<circle class=\"pit\" cx=\"%.3f\" cy=\"%.3f\" r=\"5\"><title>%" PRId32 ",%" PRId32 "</title></circle>\n",
                        across(v, p.x), down(v, p.y), p.x, p.y);
         }
+}
+
+/* What lies at each column of one row. */
+struct level {
+    cables along[MOST_LINES]; /* the cables along the row, from this column to the next */
+    cables over[MOST_LINES];  /* the cables that go straight on over the row, along the column */
+    bool corner[MOST_LINES];  /* whether a cable ends or turns there */
+};
+
+static bool between(int32_t a, int32_t b, int32_t at)
+{
+    return (a < at && at < b) || (b < at && at < a);
+}
+
+static void lay_level(const struct plan *plan, const struct grid *grid, int line, struct level *level)
+{
+    int32_t at = grid->rows.at[line];
+    memset(level, 0, sizeof *level);
+    lay_cables(plan, grid, true, line, level->along);
+    for (unsigned i = 0; i < plan->runs; i++)
+        for (unsigned k = 0; k < plan->route[i].corners; k++) {
+            struct point p = plan->route[i].corner[k ? k - 1 : 0], q = plan->route[i].corner[k];
+            if (between(p.y, q.y, at))
+                level->over[below(&grid->columns, q.x)] |= (cables)1 << i;
+            if (q.y == at)
+                level->corner[below(&grid->columns, q.x)] = true;
+        }
+}
+
+/* Whether one cable goes straight on along the row and another along the column, and none ends or turns there. */
+static bool is_crossing(const struct level *level, int column)
+{
+    cables along = column ? level->along[column - 1] & level->along[column] : 0, over = level->over[column];
+    return along && over && count(along | over) > 1 && !level->corner[column];
+}
+
+/* A square with a cross in it, and its title, if any. */
+static void draw_square(const char *class, double x, double y, const char *title)
+{
+    printf("<path class=\"%s\" d=\"M%.3f %.3f m-5 -5 h10 v10 h-10 z l10 10 m0 -10 l-10 10\">%s</path>\n", class, x, y, title);
+}
+
+/* The pits where cables cross and none ends or turns. */
+static void draw_crossings(const struct plan *plan, const struct grid *grid, const struct view *v)
+{
+    static struct level level;
+    for (int b = 0; b < grid->rows.count; b++) {
+        lay_level(plan, grid, b, &level);
+        for (int a = 0; a < grid->columns.count; a++)
+            if (is_crossing(&level, a)) {
+                struct point p = { grid->columns.at[a], grid->rows.at[b] };
+                char title[48];
+                snprintf(title, sizeof title, "<title>%" PRId32 ",%" PRId32 "</title>", p.x, p.y);
+                draw_square("crossing", across(v, p.x), down(v, p.y), title);
+            }
+    }
 }
 
 /* ---- the runs' points and their numbers ---- */
@@ -556,8 +613,10 @@ static void draw_key(double x, double y)
     draw_text(x + 154, y, "two cables");
     draw_sample("centre", x + 248, y);
     draw_text(x + 280, y, "centre");
-    printf("<circle class=\"key pit\" cx=\"%.1f\" cy=\"%.1f\" r=\"5\"/>\n", x + 350, y);
-    draw_text(x + 362, y, "pit");
+    printf("<circle class=\"key pit\" cx=\"%.1f\" cy=\"%.1f\" r=\"5\"/>\n", x + 12, y + 24);
+    draw_text(x + 34, y + 24, "pit at an end or a turn");
+    draw_square("key crossing", x + 260, y + 24, "");
+    draw_text(x + 280, y + 24, "pit where cables cross");
 }
 
 static void draw_foot(const struct plan *plan, const struct view *v)
@@ -572,7 +631,7 @@ static void draw_foot(const struct plan *plan, const struct view *v)
            plan->saved, plan->pits);
     draw_key(MARGIN, y + 46);
     if (plan->runs)
-        draw_scale(v, y + 76);
+        draw_scale(v, y + 98);
 }
 
 static void draw(const struct plan *plan)
@@ -590,6 +649,7 @@ static void draw(const struct plan *plan)
     draw_trenches(plan, &grid, &v);
     draw_centre(plan, &v);
     draw_pits(plan, &v);
+    draw_crossings(plan, &grid, &v);
     draw_ends(plan, &v);
     draw_foot(plan, &v);
     puts("</svg>");

@@ -519,8 +519,9 @@ struct sink {
     uint8_t *bytes;
     size_t length;
     const struct job *job;
-    uint64_t pit[MOST_LINES]; /* a bit a row, a word a column */
-    uint32_t pits, corners;
+    uint32_t corners;
+    /* A bit a row, a word a column: where some route ends or turns, passes along the row, passes along the column. */
+    uint64_t corner[MOST_LINES], along_row[MOST_LINES], along_column[MOST_LINES];
 };
 
 static void put_half(struct sink *s, uint32_t value)
@@ -561,9 +562,7 @@ static void put_corner(struct sink *s, int column, int row)
     s->bytes[s->length++] = CORNER;
     put_word(s, (uint32_t)s->job->column_at[column]);
     put_word(s, (uint32_t)s->job->row_at[row]);
-    uint64_t bit = (uint64_t)1 << row;
-    s->pits += (s->pit[column] & bit) == 0;
-    s->pit[column] |= bit;
+    s->corner[column] |= (uint64_t)1 << row;
     s->corners++;
 }
 
@@ -576,14 +575,29 @@ static void put_route(struct sink *s, int i, const struct path *p)
     uint32_t before = s->corners;
     put_half(s, 0);
     put_corner(s, p->column[0], p->row[0]);
-    for (int k = 1; k + 1 < p->count; k++)
-        if ((p->column[k - 1] == p->column[k]) != (p->column[k] == p->column[k + 1]))
-            put_corner(s, p->column[k], p->row[k]);
+    for (int k = 1; k + 1 < p->count; k++) {
+        int column = p->column[k], row = p->row[k];
+        bool from_column = p->column[k - 1] == column, to_column = p->column[k + 1] == column;
+        if (from_column != to_column)
+            put_corner(s, column, row);
+        else
+            (to_column ? s->along_column : s->along_row)[column] |= (uint64_t)1 << row;
+    }
     if (p->count > 1)
         put_corner(s, p->column[p->count - 1], p->row[p->count - 1]);
     uint32_t count = s->corners - before;
     s->bytes[count_at] = (uint8_t)count;
     s->bytes[count_at + 1] = (uint8_t)(count >> 8);
+}
+
+/* The vertices at which a route ends or turns, or two cross. No route passes a vertex twice: where one passes along the row and one
+ * along the column, they are two. */
+static uint32_t count_pits(const struct sink *s)
+{
+    uint32_t pits = 0;
+    for (int column = 0; column < s->job->columns; column++)
+        pits += (uint32_t)__builtin_popcountll(s->corner[column] | (s->along_row[column] & s->along_column[column]));
+    return pits;
 }
 
 /* Where the steps that each leaf shares begin and end, as vertices of the centre's route. */
@@ -650,7 +664,7 @@ static size_t write_plan(const struct job *job, const struct frame *f, const str
     put_half(&s, (uint32_t)job->count);
     put_word(&s, total - saved);
     put_word(&s, saved);
-    put_half(&s, s.pits);
+    put_half(&s, count_pits(&s));
     put_half(&s, job->runs[job->centre].number);
     return length;
 }

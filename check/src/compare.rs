@@ -3,7 +3,7 @@
 
 use crate::book::{hex, job_bytes};
 use crate::damage;
-use crate::generate::{self, KINDS};
+use crate::generate::{self, CROSSINGS, KINDS};
 use crate::job::Job;
 use crate::judge::Judge;
 use crate::line;
@@ -96,6 +96,13 @@ pub fn case(seed: u64, n: u64) -> Case {
         18 => Case { bytes: damage::touched(&mut random), made_wrong: None, what: "touched book".to_string() },
         _ => Case { bytes: damage::noise(&mut random), made_wrong: None, what: "noise".to_string() },
     }
+}
+
+/// The n-th small star of a seed in which cables are made to cross.
+pub fn crossed_case(seed: u64, n: u64) -> Case {
+    let crossing = CROSSINGS[(n % CROSSINGS.len() as u64) as usize];
+    let job = generate::crossed_star(&mut Random::nth(seed, n), crossing);
+    Case { bytes: job_bytes(&job), made_wrong: None, what: format!("crossed star {crossing:?}") }
 }
 
 /// What is due for a job: a plan that the judge passes, or a refusal.

@@ -35,7 +35,7 @@ fn extend(grid: &Grid, run: &Run, path: &mut Path, budget: i64, limit: usize, fo
         found.push(path.clone());
         return found.len() <= limit;
     }
-    for next in grid.neighbours(here) {
+    for next in grid.around(here).into_iter().flatten() {
         let rest = budget - grid.point(here).distance(grid.point(next));
         if grid.point(next).distance(run.second) <= rest {
             path.push(next);

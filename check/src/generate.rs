@@ -1,5 +1,5 @@
 //! Jobs of every kind, from a seed: stars built leaf by leaf on a small lattice, which is then stretched to other
-//! coordinates; jobs that just fail to be stars; jobs with no design.
+//! coordinates; stars in which cables cross; jobs that just fail to be stars; jobs with no design.
 
 use crate::job::{Area, FAR, Job, MOST_RUNS, Point, Run, TOP_NUMBER};
 use crate::random::Random;
@@ -51,6 +51,28 @@ pub const KINDS: [Kind; 13] = [
     Kind::Line,
     Kind::Mixed,
 ];
+
+/// Which cables are made to cross in a star of straight leaves, and where. Those of two leaves cross in every plan; whether the
+/// centre comes there depends on its route, and in many least plans it does.
+#[derive(Clone, Copy, Debug, PartialEq, Eq)]
+pub enum Crossing {
+    /// Leaves beside one another, all across the way of the centre.
+    Across,
+    /// Two leaves cross in their one common point, somewhere in the centre's box.
+    Pair,
+    /// Two leaves cross where the centre ends.
+    End,
+    /// The centre crosses a leaf where another leaf ends.
+    Stop,
+    /// Two leaves cross where the centre turns: it shares one of them up to there, and the other from there on.
+    Turn,
+    /// Two leaves cross where the centre goes straight on: three routes through one vertex.
+    Three,
+}
+
+/// All of them.
+pub const CROSSINGS: [Crossing; 6] =
+    [Crossing::Across, Crossing::Pair, Crossing::End, Crossing::Stop, Crossing::Turn, Crossing::Three];
 
 /// Whether the common points of two boxes are more than one, and so a grid edge lies in both.
 fn share(a: &Area, b: &Area) -> bool {
@@ -104,6 +126,58 @@ impl Star {
         let size = random.from(1, size.max(1)) * if random.once_in(2) { 1 } else { -1 };
         let end = if random.once_in(2) { Point::new(p.x + size, p.y) } else { Point::new(p.x, p.y + size) };
         Area::of(p, end)
+    }
+
+    /// Adds a straight leaf through p, so far to the lower side and so far to the upper one, if it fits.
+    fn through(&mut self, p: Point, along_row: bool, lower: i32, upper: i32) {
+        let leaf = if along_row {
+            Area::of(Point::new(p.x - lower, p.y), Point::new(p.x + upper, p.y))
+        } else {
+            Area::of(Point::new(p.x, p.y - lower), Point::new(p.x, p.y + upper))
+        };
+        if self.fits(&leaf) {
+            self.boxes.push(leaf);
+        }
+    }
+
+    /// Adds a straight leaf across the centre's box, if it fits; most of them begin before it and end behind it.
+    fn across(&mut self, random: &mut Random, along_row: bool) {
+        let Area { low, high } = self.boxes[0];
+        let p = self.in_centre(random);
+        let (lower, upper) = if along_row { (p.x - low.x, high.x - p.x) } else { (p.y - low.y, high.y - p.y) };
+        let mut beyond = || i32::from(!random.once_in(5));
+        self.through(p, along_row, lower + beyond(), upper + beyond());
+    }
+
+    /// Adds the leaves of a crossing, for a centre that goes from low to high.
+    fn cross(&mut self, random: &mut Random, crossing: Crossing) {
+        let Area { low, high } = self.boxes[0];
+        let p = Point::new(random.from(low.x + 1, high.x - 1), random.from(low.y + 1, high.y - 1));
+        let mut short = || random.from(1, 2);
+        match crossing {
+            Crossing::Across => (0..4).for_each(|_| self.across(random, false)),
+            Crossing::Pair => {
+                self.through(p, true, short(), short());
+                self.through(p, false, short(), short());
+            }
+            Crossing::End => {
+                self.through(low, true, 1, high.x - low.x + short() - 1);
+                self.through(low, false, 1, high.y - low.y + short() - 1);
+            }
+            Crossing::Stop => {
+                self.through(p, true, p.x - low.x, 0);
+                self.through(p, true, 0, high.x - p.x);
+                self.through(p, false, short(), short());
+            }
+            Crossing::Turn => {
+                self.through(p, false, p.y - low.y, 1);
+                self.through(p, true, 1, high.x - p.x);
+            }
+            Crossing::Three => {
+                self.through(p, true, p.x - low.x, high.x - p.x);
+                self.through(p, false, 1, 1);
+            }
+        }
     }
 
     fn propose(&self, random: &mut Random, kind: Kind) -> Area {
@@ -263,6 +337,43 @@ pub fn small_star(random: &mut Random, kind: Kind) -> Job {
         stretch(random, &mut points, -reach, reach);
     }
     random.shuffle(&mut points);
+    numbered_from_1(&points)
+}
+
+/// A small star of straight leaves with such a crossing, its runs numbered 1, 2, 3.
+pub fn crossed_star(random: &mut Random, crossing: Crossing) -> Job {
+    let corner = |random: &mut Random, low: i32| Point::new(random.from(low, low + 1), random.from(low, low + 1));
+    let centre = Area::of(corner(random, 1), corner(random, 5));
+    let mut star = Star { boxes: vec![centre], span: 8 };
+    star.cross(random, crossing);
+    for _ in 0..1 + random.below(3) {
+        let along_row = random.once_in(2);
+        star.across(random, along_row);
+    }
+    let mut points: Vec<(Point, Point)> = star.boxes.iter().map(|area| (area.low, area.high)).collect();
+    turned(random, &mut points, star.span);
+    if random.once_in(2) {
+        let reach = random.from(8, 20);
+        stretch(random, &mut points, -reach, reach);
+    }
+    random.shuffle(&mut points);
+    numbered_from_1(&points)
+}
+
+/// The whole mirrored or not, with x for y or not, and each run from either end.
+fn turned(random: &mut Random, runs: &mut [(Point, Point)], span: i32) {
+    let [other_x, other_y, swapped] = [0; 3].map(|_| random.once_in(2));
+    let moved = |p: Point| {
+        let (x, y) = (if other_x { span - p.x } else { p.x }, if other_y { span - p.y } else { p.y });
+        if swapped { Point::new(y, x) } else { Point::new(x, y) }
+    };
+    for run in runs.iter_mut() {
+        *run = if random.once_in(2) { (moved(run.0), moved(run.1)) } else { (moved(run.1), moved(run.0)) };
+    }
+}
+
+/// The job 1 of these runs, numbered 1, 2, 3.
+fn numbered_from_1(points: &[(Point, Point)]) -> Job {
     let runs = points.iter().zip(1..).map(|(&(first, second), number)| Run { number, first, second }).collect();
     Job { number: 1, runs }
 }

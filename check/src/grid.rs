@@ -1,5 +1,7 @@
 //! The Hanan grid (000, 2.2; 01, "Lines, boxes, meeting"): columns and rows through every point of the job.
 
+use std::cmp::Ordering;
+
 use crate::job::{Job, Point, gap};
 
 /// A vertex by its column and row, counted from 0.
@@ -35,11 +37,25 @@ fn distinct(mut values: Vec<i32>) -> Vec<i32> {
     values
 }
 
+/// The index one nearer to another, or that one itself.
+fn nearer(from: usize, to: usize) -> usize {
+    match from.cmp(&to) {
+        Ordering::Less => from + 1,
+        Ordering::Equal => to,
+        Ordering::Greater => from - 1,
+    }
+}
+
 impl Grid {
     /// The Hanan grid of a job.
     pub fn hanan(job: &Job) -> Grid {
-        let points = || job.runs.iter().flat_map(|run| [run.first, run.second]);
-        Grid { columns: distinct(points().map(|p| p.x).collect()), rows: distinct(points().map(|p| p.y).collect()) }
+        Grid::through(job.runs.iter().flat_map(|run| [run.first, run.second]))
+    }
+
+    /// The columns and rows through these points.
+    pub fn through(points: impl Iterator<Item = Point> + Clone) -> Grid {
+        let columns = distinct(points.clone().map(|p| p.x).collect());
+        Grid { columns, rows: distinct(points.map(|p| p.y).collect()) }
     }
 
     /// The vertex at a point, if both of its lines are there.
@@ -52,6 +68,11 @@ impl Grid {
     /// The point at which a vertex stands.
     pub fn point(&self, v: Vertex) -> Point {
         Point::new(self.columns[v.column], self.rows[v.row])
+    }
+
+    /// Every vertex, column by column.
+    pub fn vertices(&self) -> impl Iterator<Item = Vertex> {
+        (0..self.columns.len()).flat_map(|column| (0..self.rows.len()).map(move |row| Vertex { column, row }))
     }
 
     /// The number of edges.
@@ -95,12 +116,31 @@ impl Grid {
         gap(self.columns[from.column], self.columns[to.column]) + gap(self.rows[from.row], self.rows[to.row])
     }
 
-    /// The vertices joined to v by an edge.
-    pub fn neighbours(&self, v: Vertex) -> impl Iterator<Item = Vertex> {
+    /// The vertices joined to v by an edge: on the left, on the right, below, above.
+    pub fn around(&self, v: Vertex) -> [Option<Vertex>; 4] {
         let left = v.column.checked_sub(1).map(|column| Vertex { column, ..v });
         let right = (v.column + 1 < self.columns.len()).then_some(Vertex { column: v.column + 1, ..v });
         let below = v.row.checked_sub(1).map(|row| Vertex { row, ..v });
         let above = (v.row + 1 < self.rows.len()).then_some(Vertex { row: v.row + 1, ..v });
-        [left, right, below, above].into_iter().flatten()
+        [left, right, below, above]
+    }
+
+    /// The vertices that are passed from each of these corners straight to the next; none where a corner is no vertex, or not on a
+    /// line with the one before.
+    pub fn path(&self, corners: &[Point]) -> Option<Vec<Vertex>> {
+        let mut path = vec![self.vertex(*corners.first()?)?];
+        for &corner in corners {
+            let to = self.vertex(corner)?;
+            let mut here = path[path.len() - 1];
+            if here.column != to.column && here.row != to.row {
+                return None;
+            }
+            while here != to {
+                here.column = nearer(here.column, to.column);
+                here.row = nearer(here.row, to.row);
+                path.push(here);
+            }
+        }
+        Some(path)
     }
 }

@@ -1,12 +1,10 @@
 //! The judge of plan books: reads a job and a plan, and says in words everything that is wrong with the plan. A plan book that
 //! reading refuses is judged no further: of one that is read, the records, their counts and their turns are right.
 
-use std::collections::BTreeSet;
-
 use crate::edges::EdgeSet;
 use crate::graph::Survey;
-use crate::grid::{Grid, Vertex};
 use crate::job::{Point, Run};
+use crate::pits;
 use crate::plan_book::{PlanBook, RouteRecord};
 use crate::planner;
 use crate::refusal;
@@ -60,8 +58,8 @@ impl Judge {
         same("the head's job number", book.job.into(), self.survey.job.number.into());
         same("the head's number of runs", book.runs.into(), self.survey.job.runs.len() as i64);
         same("the head's centre", book.centre.into(), self.centre.into());
-        let pits = book.routes.iter().flat_map(|route| &route.corners).collect::<BTreeSet<_>>().len();
-        same("pits", book.pits.into(), pits as i64);
+        let drawn: Vec<&[Point]> = book.routes.iter().map(|route| &route.corners[..]).collect();
+        same("pits", book.pits.into(), pits::of_corners(&drawn).count() as i64);
         let mut union = Some(EdgeSet::none(&self.survey.grid));
         for (i, (run, route)) in self.survey.job.runs.iter().zip(&book.routes).enumerate() {
             let dug = self.faults_of_route(run, self.survey.graph.meets(i), route, faults);
@@ -108,7 +106,7 @@ impl Judge {
         if last != run.second {
             wrong(format!("its last corner {} is not its second point {}", show(last), show(run.second)));
         }
-        let drawn = self.faults_of_pieces(corners, &mut wrong);
+        let drawn = self.faults_of_corners(corners, &mut wrong);
         let length: i64 = corners.windows(2).map(|pair| pair[0].distance(pair[1])).sum();
         if length != run.distance() {
             wrong(format!("its route is {length} long, but its points are {} apart", run.distance()));
@@ -116,35 +114,13 @@ impl Judge {
         drawn
     }
 
-    /// Adds what is wrong with the straight pieces between corners. Gives their edges where all corners are vertices.
-    fn faults_of_pieces(&self, corners: &[Point], wrong: &mut impl FnMut(String)) -> Option<EdgeSet> {
-        let mut dug = Some(EdgeSet::none(&self.survey.grid));
-        for &corner in corners.iter().filter(|&&corner| self.survey.grid.vertex(corner).is_none()) {
+    /// Adds which corners are no vertices. Gives the edges between the corners where all of them are.
+    fn faults_of_corners(&self, corners: &[Point], wrong: &mut impl FnMut(String)) -> Option<EdgeSet> {
+        let grid = &self.survey.grid;
+        for &corner in corners.iter().filter(|&&corner| grid.vertex(corner).is_none()) {
             wrong(format!("its corner {} is no crossing of survey lines", show(corner)));
-            dug = None;
         }
-        for pair in corners.windows(2) {
-            let ends = self.survey.grid.vertex(pair[0]).zip(self.survey.grid.vertex(pair[1]));
-            if let (Some(set), Some((u, v))) = (&mut dug, ends) {
-                add_piece(&self.survey.grid, set, u, v);
-            }
-        }
-        dug
-    }
-}
-
-/// Adds the edges between two vertices of one line.
-fn add_piece(grid: &Grid, set: &mut EdgeSet, u: Vertex, v: Vertex) {
-    let (low, high) = if u <= v { (u, v) } else { (v, u) };
-    let mut here = low;
-    while here != high {
-        let next = if here.row == high.row {
-            Vertex { column: here.column + 1, ..here }
-        } else {
-            Vertex { row: here.row + 1, ..here }
-        };
-        set.add(grid.edge_between(here, next));
-        here = next;
+        grid.path(corners).map(|path| EdgeSet::along(grid, &path))
     }
 }
 

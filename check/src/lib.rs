@@ -20,6 +20,7 @@ pub mod job;
 pub mod judge;
 pub mod line;
 pub mod listing;
+pub mod pits;
 pub mod plan_book;
 pub mod planner;
 pub mod random;

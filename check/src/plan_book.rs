@@ -28,7 +28,7 @@ pub struct PlanBook {
     pub trench: u32,
     /// The head's saved.
     pub saved: u32,
-    /// The head's pits.
+    /// The head's pits, as they stand: plans written before C-14 carry a figure without crossings and are still read (02, C-14).
     pub pits: u16,
     /// The head's run number of the centre, 0 where there is no run.
     pub centre: u16,

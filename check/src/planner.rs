@@ -1,14 +1,12 @@
 //! The independent planner: the least plan of a star, by enumeration where the job is small and by the in-out graph where it
 //! is not, and all figures of a plan measured on its routes.
 
-use std::collections::BTreeSet;
-
 use crate::edges::EdgeSet;
 use crate::enumerate::{self, Path};
 use crate::graph::Survey;
-use crate::grid::{Grid, Vertex};
 use crate::in_out;
 use crate::job::{Job, Point};
+use crate::pits;
 
 /// A plan: one route a run, in job order, each given by its corners.
 #[derive(Clone, Debug, PartialEq, Eq)]
@@ -23,7 +21,7 @@ pub struct Plan {
     pub trench: i64,
     /// The sum of the runs' distances less trench.
     pub saved: i64,
-    /// The number of distinct corners.
+    /// The number of pits: of points at which a route ends or turns, or two routes cross.
     pub pits: usize,
 }
 
@@ -61,14 +59,7 @@ pub fn drawn(survey: &Survey, centre: Option<usize>, routes: &[Path]) -> Plan {
     let Survey { job, grid, graph } = survey;
     let union = routes.iter().fold(EdgeSet::none(grid), |union, path| union.union(&EdgeSet::along(grid, path)));
     let trench = union.length(grid);
-    let corners: Vec<Vec<Point>> = routes.iter().map(|path| corners(grid, path)).collect();
-    let pits = corners.iter().flatten().collect::<BTreeSet<_>>().len();
+    let corners = routes.iter().map(|path| pits::corners(path).map(|v| grid.point(v)).collect()).collect();
+    let pits = pits::of_paths(grid, routes).count();
     Plan { centre, meets: graph.figures(), corners, trench, saved: job.distance() - trench, pits }
-}
-
-/// The corners of a path: its first vertex, those at which it turns, its last.
-fn corners(grid: &Grid, path: &[Vertex]) -> Vec<Point> {
-    let turns = |i: usize| (path[i - 1].row == path[i].row) != (path[i].row == path[i + 1].row);
-    let last = path.len() - 1;
-    (0..path.len()).filter(|&i| i == 0 || i == last || turns(i)).map(|i| grid.point(path[i])).collect()
 }

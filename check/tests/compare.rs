@@ -1,6 +1,9 @@
 //! The comparison passes a right planner, and notices each wrong one.
 
+use std::collections::BTreeSet;
+
 use trench_check::compare::{Called, Caller, SIZES, case, try_cases, try_listing};
+use trench_check::job::Point;
 use trench_check::listing;
 use trench_check::plan_book::PlanBook;
 use trench_check::planner;
@@ -55,6 +58,12 @@ fn changed(job: &[u8], out: &mut [u8], change: impl FnOnce(&mut PlanBook)) -> i3
     write(&book, out)
 }
 
+/// The pits as they were before C-14.
+fn corners_alone(book: &mut PlanBook) {
+    let corners: BTreeSet<Point> = book.routes.iter().flat_map(|route| route.corners.iter().copied()).collect();
+    book.pits = corners.len() as u16;
+}
+
 #[test]
 fn a_right_planner_passes() {
     let report = report(right);
@@ -96,6 +105,7 @@ fn wrong_bytes_are_noticed() {
     assert_noticed(touch_behind, "a byte behind the plan was changed");
     assert_noticed(|job, out| changed(job, out, |book| book.trench += 1), "but the routes dig");
     assert_noticed(|job, out| changed(job, out, |book| book.pits += 1), "pits is");
+    assert_noticed(|job, out| changed(job, out, corners_alone), "pits is");
     let meets_none = |book: &mut PlanBook| book.routes.iter_mut().for_each(|route| route.meets = 0);
     assert_noticed(|job, out| changed(job, out, meets_none), "meets is 0 and should be");
 }

@@ -1,9 +1,11 @@
 //! The judge finds nothing wrong with right plans, and catches every spoilt one, in words that say what was spoilt.
 
+use std::collections::BTreeSet;
+
 use trench_check::book::job_bytes;
 use trench_check::book_cases::count;
 use trench_check::enumerate::Path;
-use trench_check::generate::{self, KINDS};
+use trench_check::generate::{self, CROSSINGS, KINDS};
 use trench_check::graph::Survey;
 use trench_check::grid::Vertex;
 use trench_check::job::{Job, Point};
@@ -50,6 +52,25 @@ fn right_plans_pass() {
 }
 
 #[test]
+fn right_plans_with_crossings_pass_and_those_without_them_do_not() {
+    let mut caught = 0;
+    for n in 0..300 {
+        let job = generate::crossed_star(&mut Random::nth(80, n), CROSSINGS[n as usize % CROSSINGS.len()]);
+        let mut book = book(&job);
+        assert_eq!(judge(&job_bytes(&job), &book.bytes()), Vec::<String>::new(), "{}", line::show(&job));
+        let due = book.pits;
+        let corners: BTreeSet<Point> = book.routes.iter().flat_map(|route| route.corners.iter().copied()).collect();
+        book.pits = corners.len() as u16;
+        if book.pits != due {
+            caught += 1;
+            let told = format!("pits is {} and should be {due}", book.pits);
+            assert_eq!(judge(&job_bytes(&job), &book.bytes()), [told], "{}", line::show(&job));
+        }
+    }
+    assert!(caught > 100, "most plans have a crossing: {caught}");
+}
+
+#[test]
 fn a_blank_job_has_one_plan() {
     let job = Job { number: 7, runs: Vec::new() };
     let bytes = job_bytes(&job);
@@ -78,6 +99,34 @@ fn figures_off_by_one_are_caught() {
     assert_says(&verdict_on(|book| book.job ^= 1), "the head's job number is 6 and should be 7");
     assert_says(&verdict_on(|book| book.routes[1].meets += 1), "run 2: meets is 2 and should be 1");
     assert_says(&verdict_on(|book| book.routes[1].run = 9), "run 2: its route record names run 9");
+}
+
+/// The centre and leaf 2 cross leaf 3 at 2,1, where no route ends or turns; the least plan is the only one. Without the crossing it
+/// has 6 pits, as in a plan written before C-14: that is read, and it is not right.
+#[test]
+fn a_crossing_is_counted() {
+    let job = job("0,0 4,2; 0,1 4,1; 2,0 2,2");
+    let bytes = job_bytes(&job);
+    let right = book(&job);
+    assert_eq!((right.trench, right.saved, right.pits), (8, 4, 7));
+    assert_eq!(judge(&bytes, &right.bytes()), Vec::<String>::new());
+    for pits in [0, 6, 8] {
+        let wrong = PlanBook { pits, ..right.clone() }.bytes();
+        assert_eq!(PlanBook::read(&wrong).map(|read| read.pits), Ok(pits));
+        assert_eq!(judge(&bytes, &wrong), [format!("pits is {pits} and should be 7")]);
+    }
+}
+
+/// Pits are counted on the routes as they are drawn, also where they are wrong.
+#[test]
+fn pits_of_wrong_routes_are_counted() {
+    let off_the_lines = verdict_on(|book| {
+        book.routes[2].corners[0] = Point::new(20, 5);
+        book.pits = 7;
+    });
+    assert_says(&off_the_lines, "run 3: its corner 20,5 is no crossing of survey lines");
+    assert!(!off_the_lines.contains("pits"), "{off_the_lines}");
+    assert_says(&verdict_on(|book| book.routes[2].corners[0] = Point::new(20, 5)), "pits is 6 and should be 7");
 }
 
 #[test]

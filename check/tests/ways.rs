@@ -1,7 +1,7 @@
 //! The three ways to a least plan agree, and give the surveyed examples of document 01.
 
 use trench_check::enumerate;
-use trench_check::generate::{self, KINDS};
+use trench_check::generate::{self, CROSSINGS, KINDS};
 use trench_check::graph::Survey;
 use trench_check::in_out;
 use trench_check::line;
@@ -69,5 +69,8 @@ fn the_makers_of_stars_make_stars() {
         let mut random = Random::nth(5, n as u64);
         let job = if n % 10 == 0 { generate::full_star(&mut random) } else { generate::star(&mut random, kind) };
         assert!(Survey::of(job.clone()).graph.centre().is_some(), "{kind:?}: {}", line::show(&job));
+        let crossing = CROSSINGS[n % CROSSINGS.len()];
+        let job = generate::crossed_star(&mut random, crossing);
+        assert!(Survey::of(job.clone()).graph.centre().is_some(), "{crossing:?}: {}", line::show(&job));
     }
 }

@@ -1,5 +1,5 @@
-//! The map program, compiled with sanitizers: draws every corner of every plan, planned or stored, and tells every refusal with
-//! its place.
+//! The map program, compiled with sanitizers: draws every corner and every crossing of every plan, planned or stored, and tells
+//! every refusal with its place.
 
 mod common;
 
@@ -15,10 +15,11 @@ use trench_check::book::job_bytes;
 use trench_check::book_cases::{Made, book_case, count, made_up, route};
 use trench_check::book_damage;
 use trench_check::damage::{self, damaged};
-use trench_check::generate::{self, KINDS};
+use trench_check::generate::{self, CROSSINGS, KINDS};
 use trench_check::grid::Grid;
 use trench_check::job::{FAR, Job, MOST_RUNS, Point, Run};
 use trench_check::line;
+use trench_check::pits::{self, Pits};
 use trench_check::plan_book::{MOST_CORNERS, PlanBook, RouteRecord};
 use trench_check::random::Random;
 use trench_check::refusal::{self, verdict, words};
@@ -27,6 +28,31 @@ use trench_check::refusal::{self, verdict, words};
 fn map() -> &'static Path {
     static MAP: LazyLock<PathBuf> = LazyLock::new(|| map_program("map"));
     &MAP
+}
+
+/// Where the pits are drawn, by where they say they are.
+type Places = BTreeMap<Point, (f64, f64)>;
+
+/// The places of some pits, each of which stands once.
+fn places(drawn: &[&Element], place: impl Fn(&Element) -> (f64, f64)) -> Places {
+    let mut places = Places::new();
+    for pit in drawn {
+        let p = line::point(&pit.text).expect("a pit says where it is");
+        assert!(places.insert(p, place(pit)).is_none(), "the pit {p:?} is drawn once");
+    }
+    places
+}
+
+/// The middle of a square: its path starts there.
+fn middle(square: &Element) -> (f64, f64) {
+    let start = square.attribute("d").strip_prefix('M').expect("a path").split(' ').take(2);
+    let start: Vec<f64> = start.map(|word| word.parse().expect("a number")).collect();
+    (start[0], start[1])
+}
+
+/// The pits of the routes that a plan's corners draw.
+fn pits_of(plan: &PlanBook) -> Pits {
+    pits::of_corners(&plan.routes.iter().map(|route| &route.corners[..]).collect::<Vec<_>>())
 }
 
 /// How decimetres became pixels.
@@ -39,7 +65,7 @@ struct View {
 
 impl View {
     /// Found from the pits, which say where they are; all the rest is then held to it.
-    fn of(pits: &BTreeMap<Point, (f64, f64)>) -> View {
+    fn of(pits: &Places) -> View {
         let (&at, &(x, y)) = pits.iter().next().expect("a plan has a pit");
         let far = pits.iter().max_by_key(|(p, _)| (p.x - at.x).abs().max((p.y - at.y).abs())).expect("a pit");
         let (p, (cx, cy)) = (far.0, far.1);
@@ -108,13 +134,13 @@ fn assert_drawing(job: &Job, plan: &PlanBook, document: &str) {
             .filter(|element| element.name == name && element.has_class(class) && !element.has_class("key"))
             .collect()
     };
-    let pits: BTreeMap<Point, (f64, f64)> = of("circle", "pit")
-        .iter()
-        .map(|pit| (line::point(&pit.text).expect("a pit says where it is"), (pit.number("cx"), pit.number("cy"))))
-        .collect();
+    let pits = places(&of("circle", "pit"), |pit| (pit.number("cx"), pit.number("cy")));
     let corners: BTreeSet<Point> = plan.routes.iter().flat_map(|route| route.corners.iter().copied()).collect();
-    assert_eq!(pits.keys().copied().collect::<BTreeSet<_>>(), corners, "the pits are the corners");
-    assert_eq!(of("circle", "pit").len(), corners.len(), "each pit is drawn once");
+    assert_eq!(pits.keys().copied().collect::<BTreeSet<_>>(), corners, "the pits at ends and turns are the corners");
+    let crossings = places(&of("path", "crossing"), middle);
+    assert_eq!(crossings.keys().copied().collect::<Vec<_>>(), pits_of(plan).crossings, "the pits at crossings");
+    let signs = all.iter().filter(|element| element.has_class("pit") || element.has_class("crossing"));
+    assert_eq!(signs.count(), pits.len() + crossings.len() + 2, "no more pits than these and the two of the key");
     if job.runs.is_empty() {
         assert_blank(plan, &all);
         return;
@@ -123,7 +149,7 @@ fn assert_drawing(job: &Job, plan: &PlanBook, document: &str) {
     let sheet = all.last().expect("the root");
     let on_sheet =
         |x: f64, y: f64| (0.0..sheet.number("width")).contains(&x) && (0.0..sheet.number("height")).contains(&y);
-    for (&p, &(x, y)) in &pits {
+    for (&p, &(x, y)) in pits.iter().chain(&crossings) {
         view.assert_drawn(p, x, y, "pit");
         assert!(on_sheet(x, y), "{p:?} is on the sheet");
     }
@@ -145,7 +171,7 @@ fn assert_drawing(job: &Job, plan: &PlanBook, document: &str) {
 
 /// The sheet of a plan without routes: its number and its figures, and nothing of a map but the key.
 fn assert_blank(plan: &PlanBook, all: &[Element]) {
-    let classes = ["survey", "trench", "centre", "pit", "end", "label", "scale"];
+    let classes = ["survey", "trench", "centre", "pit", "crossing", "end", "label", "scale"];
     let drawn =
         all.iter().filter(|element| !element.has_class("key") && classes.iter().any(|class| element.has_class(class)));
     let drawn: Vec<&str> = drawn.map(|element| element.name.as_str()).collect();
@@ -229,7 +255,7 @@ fn drawn(map: &Path, words: &[&str], bytes: &[u8]) -> String {
     text(&output.stdout)
 }
 
-/// A job is drawn, and its plan, stored and drawn again, gives the same drawing.
+/// A job is drawn, with as many pits as its plan says, and its plan, stored and drawn again, gives the same drawing.
 fn assert_drawn(map: &Path, bytes: &[u8]) {
     let job = verdict(bytes).expect("a star");
     let plan = planned(bytes).expect("a plan");
@@ -237,6 +263,7 @@ fn assert_drawn(map: &Path, bytes: &[u8]) {
     assert_drawing(&job, &plan, &document);
     let [all, each]: [i64; 2] = [plan.trench.into(), plan.trench as i64 + plan.saved as i64];
     assert_eq!((union(&plan.routes), job.distance()), (all, each), "the figures of {}", line::show(&job));
+    assert_eq!(pits_of(&plan).count(), usize::from(plan.pits), "the pits of {}", line::show(&job));
     assert_eq!(document, drawn(map, &["--plan", "-"], &plan.bytes()), "the stored plan of {}", line::show(&job));
 }
 
@@ -285,6 +312,32 @@ fn stars_are_drawn() {
         let job = if n % 15 == 14 { generate::full_star(&mut random) } else { generate::star(&mut random, kind) };
         assert_drawn(map, &job_bytes(&job));
     }
+}
+
+#[test]
+fn crossings_are_drawn() {
+    let map = map();
+    let mut crossings = 0;
+    for n in 0..60 {
+        let job = generate::crossed_star(&mut Random::nth(27, n), CROSSINGS[n as usize % CROSSINGS.len()]);
+        let bytes = job_bytes(&job);
+        assert_drawn(map, &bytes);
+        crossings += pits_of(&planned(&bytes).expect("a plan")).crossings.len();
+    }
+    assert!(crossings > 40, "there are crossings: {crossings}");
+}
+
+/// A plan written before C-14 says fewer pits than are drawn: its crossings are drawn, and its figure is told as it stands.
+#[test]
+fn an_earlier_plan_is_drawn_with_its_crossings() {
+    let map = map();
+    let job = job_bytes(&line::parse("0,0 4,2; 0,1 4,1; 2,0 2,2", 7).expect("a job line").expect("a job"));
+    let plan = planned(&job).expect("a plan");
+    assert_eq!((plan.pits, pits_of(&plan).crossings), (7, vec![Point::new(2, 1)]));
+    let earlier = PlanBook { pits: 6, ..plan };
+    assert_stored(map, &earlier);
+    let drawing = drawn(map, &["--plan", "-"], &earlier.bytes());
+    assert_eq!(drawing.replace("pits 6", "pits 7"), drawn(map, &["-"], &job));
 }
 
 #[test]

@@ -10,6 +10,7 @@ use trench_check::book::job_bytes;
 use trench_check::job::{Job, Point};
 use trench_check::judge::judge;
 use trench_check::listing;
+use trench_check::pits;
 use trench_check::plan_book::{PlanBook, RouteRecord};
 use trench_check::read_back::{Asker, PLACES, Question, listed};
 use trench_check::refusal::{Refusal, verdict, words};
@@ -89,6 +90,14 @@ fn read_by_the_archive(bytes: &[u8]) -> Result<PlanBook, Refusal> {
     Ok(book)
 }
 
+/// The plan books `earlier-NAME` are plans of `NAME` that were written when crossings did not count as pits.
+const EARLIER: &str = "earlier-";
+
+/// The file name of a sample.
+fn name(path: &Path) -> &str {
+    path.file_name().and_then(|name| name.to_str()).expect("a name")
+}
+
 /// Beside each accepted job stands a plan of it whose listing is stored too; the damaged plan books are refused as stored.
 #[test]
 fn stored_plans_are_what_is_listed() {
@@ -97,7 +106,8 @@ fn stored_plans_are_what_is_listed() {
         assert_eq!(listed(&plan), read(&path.with_extension("lst")), "{}", path.display());
         let by_archive = read_by_the_archive(&plan);
         assert_eq!(by_archive, PlanBook::read(&plan), "{}", path.display());
-        assert!(by_archive.is_err() || path.with_extension("job").exists(), "{}: whose plan is it?", path.display());
+        let job = path.with_file_name(name(&path).trim_start_matches(EARLIER)).with_extension("job");
+        assert!(by_archive.is_err() || job.exists(), "{}: whose plan is it?", path.display());
     }
     for path in samples("job") {
         let job = std::fs::read(&path).expect("a sample");
@@ -106,6 +116,23 @@ fn stored_plans_are_what_is_listed() {
             (Ok(_), Err(error)) => panic!("{}: no plan book: {error}", path.display()),
             (Err(_), plan) => assert!(plan.is_err(), "{}: a plan of a refused job", path.display()),
         }
+    }
+}
+
+/// An earlier plan is read as it is, and differs from today's in its pits alone: there the crossings are missing.
+#[test]
+fn earlier_plans_are_read() {
+    let earlier: Vec<_> = samples("plan").into_iter().filter(|path| name(path).starts_with(EARLIER)).collect();
+    assert!(!earlier.is_empty());
+    for path in earlier {
+        let today = path.with_file_name(name(&path).trim_start_matches(EARLIER));
+        let book = |path: &Path| read_by_the_archive(&std::fs::read(path).expect("a sample")).expect("a plan");
+        let (was, is) = (book(&path), book(&today));
+        let routes: Vec<&[Point]> = was.routes.iter().map(|route| &route.corners[..]).collect();
+        let pits = pits::of_corners(&routes);
+        assert_eq!((was.pits.into(), is.pits.into()), (pits.corners.len(), pits.count()), "{}", path.display());
+        assert!(was.pits < is.pits, "{}: nothing crosses", path.display());
+        assert_eq!(PlanBook { pits: is.pits, ..was }, is, "{}", path.display());
     }
 }
 

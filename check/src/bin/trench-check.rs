@@ -9,7 +9,7 @@ use trench_check::book_damage;
 use trench_check::cases;
 use trench_check::damage::{self, Damaged};
 use trench_check::enumerate;
-use trench_check::generate::{self, KINDS};
+use trench_check::generate::{self, CROSSINGS, KINDS};
 use trench_check::graph::Survey;
 use trench_check::in_out;
 use trench_check::job::Job;
@@ -27,6 +27,7 @@ const SEQUENCES: usize = 4_000_000;
 
 const USAGE: &str = "\
 usage: trench-check jobs SEED COUNT      small star jobs of every kind, one a line
+       trench-check crossed SEED COUNT   small stars of straight leaves that cross, likewise
        trench-check figures [FILE]       the figures of each job of a file of such lines
        trench-check books [FILE]         the job book of each, in hexadecimal
        trench-check cases                the case of every two boxes with corners on a grid of 4 x 4 points
@@ -41,6 +42,7 @@ fn main() -> ExitCode {
     let words: Vec<&str> = words.iter().map(String::as_str).collect();
     let done = match words[..] {
         ["jobs", seed, count] => numbers(seed, count).map(|(seed, count)| jobs(seed, count)),
+        ["crossed", seed, count] => numbers(seed, count).map(|(seed, count)| crossed(seed, count)),
         ["figures"] => each_job(None, figures),
         ["figures", file] => each_job(Some(file), figures),
         ["books"] => each_job(None, |job| book::hex(&book::job_bytes(job))),
@@ -78,6 +80,13 @@ fn jobs(seed: u64, count: u64) {
     for n in 0..count {
         let kind = KINDS[(n % KINDS.len() as u64) as usize];
         println!("{}  # {kind:?}", line::show(&generate::small_star(&mut Random::nth(seed, n), kind)));
+    }
+}
+
+fn crossed(seed: u64, count: u64) {
+    for n in 0..count {
+        let crossing = CROSSINGS[(n % CROSSINGS.len() as u64) as usize];
+        println!("{}  # {crossing:?}", line::show(&generate::crossed_star(&mut Random::nth(seed, n), crossing)));
     }
 }
 

@@ -14,6 +14,9 @@ pub mod StepCounts
 pub mod Drawn
 pub mod Counting
 pub mod Corners
+pub mod Points
+pub mod Pits
+pub mod Moved
 pub mod Turns
 pub mod Turned
 pub mod Making

@@ -1,13 +1,13 @@
 -- Tests over lists, by membership.
 use mathlib.Core.Path.{_≡_, refl, sym, ap, ap₂, _∙_, subst}
 use mathlib.Core.Logic.{_⊎_, inl, inr, ⊎-elim}
-use mathlib.Core.List.{List, [], _∷_, _++_, List·Memᴰ as Member, List·Memᴰ·head as here, List·Memᴰ·tail as there, List·Memᴰ·not-nil, List·Memᴰ·cases-cons, Memᴰ·append-left, Memᴰ·append-right, List·Memᴰ·append-cases}
-use mathlib.Core.Bool.{Bool, true, false, _||_, true≢false, false≢true}
+use mathlib.Core.List.{List, [], _∷_, _++_, map, map-append, flatten, flatMap, List·Memᴰ as Member, List·Memᴰ·head as here, List·Memᴰ·tail as there, List·Memᴰ·not-nil, List·Memᴰ·cases-cons, Memᴰ·append-left, Memᴰ·append-right, List·Memᴰ·append-cases}
+use mathlib.Core.Bool.{Bool, true, false, _||_, or-assoc, true≢false, false≢true}
 use Prim.Native.Nat.{ℕ, zero, suc, _≤_, _<_}
 use native.Mathlib.Nat.{eq-or-lt-of-le}
 use native.Mathlib.Omega.{arith}
 use lib.ListN.{length, getD, replicate}
-use Rattle.network.specs.Lists.{any, every, select, each}
+use Rattle.network.specs.Lists.{any, every, All, select, each}
 use Rattle.network.proofs.Tests.{and-split, and-join, or-split, or-join}
 
 -- where some element passes a test there is one that does, and back
@@ -122,3 +122,52 @@ select-append {A} t (a ∷ l) k = select-cons t a (l ++ k) ∙ go (t a) (select-
     go : (b : Bool) → select t (l ++ k) ≡ select t l ++ select t k → kept b a (select t (l ++ k)) ≡ kept b a (select t l) ++ select t k
     go true e = ap (λ (m : List A). a ∷ m) e
     go false e = e
+
+-- ---- lists of lists
+
+-- some element of two lists
+pub any-append : {A : Type 0} (t : A → Bool) (l k : List A) → any t (l ++ k) ≡ any t l || any t k
+any-append t [] k = refl
+any-append t (a ∷ l) k = ap (λ b. t a || b) (any-append t l k) ∙ sym (or-assoc (t a) (any t l) (any t k))
+
+-- some element of many
+pub any-flatMap : {A B : Type 0} (t : B → Bool) (f : A → List B) (l : List A) → any t (flatMap f l) ≡ any (λ a. any t (f a)) l
+unfolding flatMap
+any-flatMap t f [] = refl
+any-flatMap t f (a ∷ l) = any-append t (f a) (flatMap f l) ∙ ap (λ b. any t (f a) || b) (any-flatMap t f l)
+
+-- of the lists of a list
+pub any-flatten : {A : Type 0} (t : A → Bool) (l : List (List A)) → any t (flatten l) ≡ any (any t) l
+unfolding flatten
+any-flatten t [] = refl
+any-flatten t (a ∷ l) = any-append t a (flatten l) ∙ ap (λ b. any t a || b) (any-flatten t l)
+
+-- what holds of the elements of both
+pub all-append : {A : Type 0} (P : A → Type 0) (l k : List A) → All P l → All P k → All P (l ++ k)
+all-append P [] k a b = b
+all-append P (x ∷ l) k a b = (a .0, all-append P l k (a .1) b)
+
+-- of all
+pub all-flatten : {A : Type 0} (P : A → Type 0) (l : List (List A)) → All (All P) l → All P (flatten l)
+unfolding flatten
+all-flatten P [] a = tt
+all-flatten P (k ∷ l) a = all-append P k (flatten l) (a .0) (all-flatten P l (a .1))
+
+-- of all that is made of the elements of a list
+pub all-flatMap : {A B : Type 0} (P : A → Type 0) (Q : B → Type 0) (f : A → List B) → ((a : A) → P a → All Q (f a)) → (l : List A) → All P l → All Q (flatMap f l)
+unfolding flatMap
+all-flatMap P Q f h [] a = tt
+all-flatMap P Q f h (x ∷ l) a = all-append Q (f x) (flatMap f l) (h x (a .0)) (all-flatMap P Q f h l (a .1))
+
+-- joining mapped lists is mapping the joined list
+pub flatten-map : {A B : Type 0} (f : A → B) (l : List (List A)) → flatten (map (map f) l) ≡ map f (flatten l)
+unfolding flatten
+flatten-map f [] = refl
+flatten-map f (k ∷ l) = rw (map-append f k (flatten l), flatten-map f l)
+
+-- and what is made of mapped elements is mapped, if that of each is
+pub flatMap-map : {A B C D : Type 0} (P : A → Type 0) (f : A → B) (m : C → D) (s : A → List C) (t : B → List D)
+    → ((a : A) → P a → t (f a) ≡ map m (s a)) → (l : List A) → All P l → flatMap t (map f l) ≡ map m (flatMap s l)
+unfolding flatMap
+flatMap-map P f m s t h [] a = refl
+flatMap-map P f m s t h (x ∷ l) a = ap₂ _++_ (h x (a .0)) (flatMap-map P f m s t h l (a .1)) ∙ sym (map-append m (s x) (flatMap s l))

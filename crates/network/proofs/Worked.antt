@@ -1,6 +1,6 @@
 -- Small jobs worked out by hand: the definitions compute to the figures of document 01 (Surveyed examples; Traps for the pencil).
 use mathlib.Core.Path.{_≡_, refl}
-use mathlib.Core.List.{List, [], _∷_, List·Memᴰ·head as here, List·Memᴰ·tail as there}
+use mathlib.Core.List.{List, [], _∷_, flatten, flatMap, List·Memᴰ·head as here, List·Memᴰ·tail as there}
 use mathlib.Core.Bool.{false}
 use Prim.Native.Nat.{ℕ, _≤_}
 use native.Mathlib.Omega.{arith}
@@ -12,6 +12,7 @@ use Rattle.network.specs.Route.{Route, level, lies, Manhattan, Routes, u
 use Rattle.network.specs.Graph.{overlap, meets, below, degree, isCentre, centres}
 use Rattle.network.specs.Excess.{excess}
 use Rattle.network.specs.Corners.{samePoint, straightOn, corners}
+use Rattle.network.specs.Pits.{unique, amid, passesRow, passesColumn, crossing, crossings, pitPoints, pitsOf}
 use Rattle.network.specs.Slopes.{flipped, slopes}
 use Rattle.network.specs.Boxes.{within}
 use Rattle.network.specs.Sharable.{Sharable}
@@ -57,6 +58,43 @@ two-corners : corners right-then-up ≡ at 0 0 ∷ at 5 0 ∷ at 5 3 ∷ []
 unfolding samePoint straightOn
 two-corners = refl
 
+-- ---- pits
+
+-- along the row 2 and along the column 3
+abbrev row-two : Route
+row-two = at 0 2 ∷ at 6 2 ∷ []
+
+abbrev column-three : Route
+column-three = at 3 5 ∷ at 3 0 ∷ []
+
+-- they cross at (3,2): four ends and one crossing
+crossed-pits : pitsOf (row-two ∷ column-three ∷ []) ≡ 5
+unfolding pitsOf pitPoints crossings crossing passesRow passesColumn amid level unique flatten flatMap samePoint
+crossed-pits = refl
+
+-- three routes through one vertex: six ends, and the crossing counts once
+thrice-pits : pitsOf (row-two ∷ column-three ∷ (at 3 1 ∷ at 3 6 ∷ []) ∷ []) ≡ 7
+unfolding pitsOf pitPoints crossings crossing passesRow passesColumn amid level unique flatten flatMap samePoint
+thrice-pits = refl
+
+-- a third route ends there, or turns there: it is that end or turn, and no more
+ended-pits : pitsOf (row-two ∷ column-three ∷ (at 3 2 ∷ at 5 2 ∷ []) ∷ []) ≡ 6
+unfolding pitsOf pitPoints crossings crossing passesRow passesColumn amid level unique flatten flatMap samePoint
+ended-pits = refl
+
+turned-pits : pitsOf (row-two ∷ column-three ∷ (at 3 1 ∷ at 3 2 ∷ at 5 2 ∷ []) ∷ []) ≡ 7
+unfolding pitsOf pitPoints crossings crossing passesRow passesColumn amid level unique flatten flatMap samePoint
+turned-pits = refl
+
+-- two routes along one row do not cross, nor does one that ends on the other
+same-row-pits : pitsOf (row-two ∷ (at 2 2 ∷ at 5 2 ∷ []) ∷ []) ≡ 4
+unfolding pitsOf pitPoints crossings crossing passesRow passesColumn amid level unique flatten flatMap samePoint
+same-row-pits = refl
+
+touching-pits : pitsOf (row-two ∷ (at 3 2 ∷ at 3 5 ∷ []) ∷ []) ≡ 4
+unfolding pitsOf pitPoints crossings crossing passesRow passesColumn amid level unique flatten flatMap samePoint
+touching-pits = refl
+
 -- ---- a route that is Manhattan, and one that is not
 
 is-manhattan : Manhattan (hanan two) (run 0 0 2 3) up-at-two
@@ -72,44 +110,44 @@ no-detour m = omega (arith, m .shortest)
 -- ---- first trap: sharing both directions with a leaf of the other slope
 
 -- (0,0)-(4,3); (0,3)-(4,0)
-abbrev crossing : List Run
-crossing = run 0 0 4 3 ∷ run 0 3 4 0 ∷ []
+abbrev opposite : List Run
+opposite = run 0 0 4 3 ∷ run 0 3 4 0 ∷ []
 
 -- both routes go through the corner (4,0), and share the bottom row
-abbrev crossing-routes : List Route
-crossing-routes = (at 0 0 ∷ at 4 0 ∷ at 4 3 ∷ []) ∷ (at 0 3 ∷ at 0 0 ∷ at 4 0 ∷ []) ∷ []
+abbrev opposite-routes : List Route
+opposite-routes = (at 0 0 ∷ at 4 0 ∷ at 4 3 ∷ []) ∷ (at 0 3 ∷ at 0 0 ∷ at 4 0 ∷ []) ∷ []
 
-crossing-trench : unionLength (hanan crossing) crossing-routes ≡ 10
+opposite-trench : unionLength (hanan opposite) opposite-routes ≡ 10
 unfolding unionLength edges distinct insert lies level spans len
-crossing-trench = refl
+opposite-trench = refl
 
-crossing-saved : excess (hanan crossing) crossing-routes ≡ 4
+opposite-saved : excess (hanan opposite) opposite-routes ≡ 4
 unfolding excess edges distinct insert lies level spans len
-crossing-saved = refl
+opposite-saved = refl
 
 -- no routes save more, as the trap has it (7)
-crossing-sharable : Sharable (hanan crossing) (run 0 0 4 3) (run 0 3 4 0) 4
+opposite-sharable : Sharable (hanan opposite) (run 0 0 4 3) (run 0 3 4 0) 4
 unfolding gap slopes within spans
-crossing-sharable =
-    let p = hanan-placed crossing {r = run 0 0 4 3} (here refl) in
-    let q = hanan-placed crossing {r = run 0 3 4 0} (there (here refl)) in
-    sharable-opposite (hanan crossing) flipped (run 0 0 4 3) (at 0 3) (at 4 0) p (q .first-vertex) (q .second-vertex) refl refl refl refl
+opposite-sharable =
+    let p = hanan-placed opposite {r = run 0 0 4 3} (here refl) in
+    let q = hanan-placed opposite {r = run 0 3 4 0} (there (here refl)) in
+    sharable-opposite (hanan opposite) flipped (run 0 0 4 3) (at 0 3) (at 4 0) p (q .first-vertex) (q .second-vertex) refl refl refl refl
 
-crossing-most : (others : List Route) → Routes (hanan crossing) crossing others → excess (hanan crossing) others ≤ 4
-crossing-most [] m = absurd m
-crossing-most (a ∷ []) m = absurd (m .1)
-crossing-most (a ∷ b ∷ []) m = omega (arith, shared-excess (hanan crossing) a b, crossing-sharable .most a b (m .0) (m .1 .0))
-crossing-most (a ∷ b ∷ c ∷ l) m = absurd (m .1 .1)
+opposite-most : (others : List Route) → Routes (hanan opposite) opposite others → excess (hanan opposite) others ≤ 4
+opposite-most [] m = absurd m
+opposite-most (a ∷ []) m = absurd (m .1)
+opposite-most (a ∷ b ∷ []) m = omega (arith, shared-excess (hanan opposite) a b, opposite-sharable .most a b (m .0) (m .1 .0))
+opposite-most (a ∷ b ∷ c ∷ l) m = absurd (m .1 .1)
 
-crossing-least : Least (hanan crossing) crossing crossing-routes
-crossing-least =
-    let p = hanan-placed crossing {r = run 0 0 4 3} (here refl) in
-    let q = hanan-placed crossing {r = run 0 3 4 0} (there (here refl)) in
-    least-of-most (hanan crossing) crossing crossing-routes (
-      bent-manhattan (hanan crossing) (at 0 0) (at 4 3) (p .first-vertex) (p .second-vertex),
-      (turned-manhattan (hanan crossing) (run 4 0 0 3) (bent (at 4 0) (at 0 3)) (bent-manhattan (hanan crossing) (at 4 0) (at 0 3) (q .second-vertex) (q .first-vertex)), tt),
+opposite-least : Least (hanan opposite) opposite opposite-routes
+opposite-least =
+    let p = hanan-placed opposite {r = run 0 0 4 3} (here refl) in
+    let q = hanan-placed opposite {r = run 0 3 4 0} (there (here refl)) in
+    least-of-most (hanan opposite) opposite opposite-routes (
+      bent-manhattan (hanan opposite) (at 0 0) (at 4 3) (p .first-vertex) (p .second-vertex),
+      (turned-manhattan (hanan opposite) (run 4 0 0 3) (bent (at 4 0) (at 0 3)) (bent-manhattan (hanan opposite) (at 4 0) (at 0 3) (q .second-vertex) (q .first-vertex)), tt),
     )
-    (λ others m. omega (arith, crossing-saved, crossing-most others m))
+    (λ others m. omega (arith, opposite-saved, opposite-most others m))
 
 -- ---- second trap: fixing the centre leaf by leaf, in job order
 

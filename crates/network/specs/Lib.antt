@@ -14,6 +14,7 @@ pub mod Entries
 -- what the layers up to the planner are stated with, and no demand mentions
 pub mod Excess
 pub mod Steps
+pub mod Passes
 pub mod Slopes
 pub mod Apart
 pub mod Boxes

@@ -12,7 +12,7 @@ use Rattle.route.specs.declared.Walker.{Walker}
 use Rattle.route.specs.declared.Stepped.{Stepped}
 use Rattle.route.specs.Route.{OnGrid, numbered, cornersOf, placed}
 use Rattle.route.specs.Walker.{standing, stepped}
-use Rattle.route.specs.Marked.{crossing}
+use Rattle.route.specs.Marked.{indexesOf}
 use Rattle.route.proofs.Walk.{On, left, left-some, on-start, on-step, left-turned, left-straight, left-end}
 use Rattle.route.proofs.Corners.{left-start, corners-few}
 use Rattle.plan.specs.Writers.{Wrote}
@@ -61,21 +61,21 @@ module _ (columns rows : List ℕ) where
       writing-straight t = record { on = on-step r w s (i .on) h e; rest = rw (left-straight r w s (i .on) h e t) at (i .rest) }
 
       -- a turn: the vertex's record is written into the rest of ys
-      pub writing-turned : s .turned ≡ true → (zs : List ℕ) (n : ℕ) → Wrote (cornerRecord (placed columns rows (crossing (w .here)))) (midOf at (length ys - at) ys) zs n
+      pub writing-turned : s .turned ≡ true → (zs : List ℕ) (n : ℕ) → Wrote (cornerRecord (placed columns rows (indexesOf (w .here)))) (midOf at (length ys - at) ys) zs n
           → Writing r xs (putMid at (length ys - at) ys zs) (s .walker) (at + n)
       unfolding flatMap
       writing-turned t zs n q =
           record {
             on = on-step r w s (i .on) h e;
-            rest = rest-next (cornersAt (cornersOf r)) (cornerRecord (placed columns rows (crossing (w .here)))) (cornersAt (left r (s .walker))) xs ys zs at n
+            rest = rest-next (cornersAt (cornersOf r)) (cornerRecord (placed columns rows (indexesOf (w .here)))) (cornersAt (left r (s .walker))) xs ys zs at n
                 (rw (left-turned r w s (i .on) h e t) at (i .rest)) q;
           }
 
     -- the end of the route: its record is the last
-    pub writing-end : r .count ≤ w .at → (zs : List ℕ) (n : ℕ) → Wrote (cornerRecord (placed columns rows (crossing (w .here)))) (midOf at (length ys - at) ys) zs n
+    pub writing-end : r .count ≤ w .at → (zs : List ℕ) (n : ℕ) → Wrote (cornerRecord (placed columns rows (indexesOf (w .here)))) (midOf at (length ys - at) ys) zs n
         → Wrote (cornersAt (cornersOf r)) xs (putMid at (length ys - at) ys zs) (at + n)
     unfolding flatMap
     writing-end h zs n q =
         rest-none (cornersAt (cornersOf r)) xs (putMid at (length ys - at) ys zs) (at + n)
-        (rest-next (cornersAt (cornersOf r)) (cornerRecord (placed columns rows (crossing (w .here)))) [] xs ys zs at n
+        (rest-next (cornersAt (cornersOf r)) (cornerRecord (placed columns rows (indexesOf (w .here)))) [] xs ys zs at n
         (rw (left-end r w (i .on) h) at (i .rest)) q)

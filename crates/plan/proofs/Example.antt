@@ -8,7 +8,7 @@ use Rattle.network.specs.Distinct.{insert, distinct}
 use Rattle.network.specs.Route.{Route, level, lies, unionLength}
 use Rattle.network.specs.Graph.{overlap, meets, degree, isCentre, centres}
 use Rattle.network.specs.Corners.{samePoint, straightOn}
-use Rattle.network.specs.Pits.{unique, pitsOf}
+use Rattle.network.specs.Pits.{unique, amid, passesRow, passesColumn, crossing, crossings, pitPoints, pitsOf}
 use Rattle.plan.specs.Plan.{bookBytes, drawnBytes, planBytes}
 
 -- a point in decimetres, neither coordinate below 0
@@ -42,5 +42,5 @@ job-seven : planBytes 7 (1 ∷ 2 ∷ 3 ∷ []) runs routes
     ∷ 67 ∷ 20 ∷ 0 ∷ 0 ∷ 0 ∷ 20 ∷ 0 ∷ 0 ∷ 0
     ∷ 67 ∷ 20 ∷ 0 ∷ 0 ∷ 0 ∷ 50 ∷ 0 ∷ 0 ∷ 0
     ∷ 90 ∷ 8 ∷ 0 ∷ []
-unfolding planBytes drawnBytes bookBytes pitsOf unique flatten flatMap unionLength edges len spans level lies distance gap distinct insert meets overlap inside degree isCentre centres straightOn samePoint
+unfolding planBytes drawnBytes bookBytes pitsOf pitPoints crossings crossing passesRow passesColumn amid unique flatten flatMap unionLength edges len spans level lies distance gap distinct insert meets overlap inside degree isCentre centres straightOn samePoint
 job-seven = refl

@@ -10,7 +10,7 @@ ghost use Rattle.network.specs.Lists.{All};
 ghost use Rattle.job.specs.Fields.{wordOf};
 ghost use Rattle.job.specs.Written.{bytes2, bytes4};
 ghost use Rattle.route.specs.Route.{OnGrid, numbered, cornersOf, placed};
-ghost use Rattle.route.specs.Marked.{crossing};
+ghost use Rattle.route.specs.Marked.{indexesOf};
 ghost use Rattle.plan.specs.Bytes.{over};
 ghost use Rattle.plan.specs.Writers.{behind, Wrote, entryAt, entriesAt, WroteRuns};
 ghost use Rattle.plan.specs.Records.{headRecord, routeRecord, cornerRecord, endRecord};
@@ -101,7 +101,7 @@ fn write_end(out: &mut [u8], corners: u32) -> usize
 // The corner record of a vertex, whose coordinates are those of its column and its row.
 fn write_corner(out: &mut [u8], v: Vertex, columns: &[u32; 64], rows: &[u32; 64]) -> usize
     requires { ⌜ (v .column < 64) × (v .row < 64) × (9 ≤ length (now out)) ⌝ }
-    ensures { λ n. ⌜ Wrote (cornerRecord (placed (now (columns .entry)) (now (rows .entry)) (crossing v)))
+    ensures { λ n. ⌜ Wrote (cornerRecord (placed (now (columns .entry)) (now (rows .entry)) (indexesOf v)))
         (now (out .entry)) (now (out .exit)) n ⌝ }
 {
     let column = v.column;

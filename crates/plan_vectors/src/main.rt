@@ -177,6 +177,19 @@ fn print_plan(out: &[u8], n: usize)
     }
 }
 
+// The corners and the pits of routes.
+fn print_pits(routes: [Route; 32], count: usize) -> usize
+    requires { ⌜ (count ≤ 32) × All (OnGrid numbered) (take count routes) ⌝ }
+    ensures { λ n. ⌜ n ≤ 4064 ⌝ }
+{
+    print_routes(routes, count);
+    let pits = route::pits(routes, count);
+    print(b"pits");
+    print_number(pits as u64);
+    print(b"\n");
+    pits
+}
+
 // Prints the corners and the pits of routes, and their plan in a buffer of 36,822 bytes and in one of 40,960.
 fn show(
     head: Head,
@@ -194,11 +207,7 @@ fn show(
         print(b"off the grid\n");
         return;
     }
-    print_routes(routes, count);
-    let pits = route::pits(routes, count);
-    print(b"pits");
-    print_number(pits as u64);
-    print(b"\n");
+    let pits = print_pits(routes, count);
     let mut figures = head;
     figures.pits = pits as u32;
     let mut small = [0x5Au8; 36822];
@@ -391,10 +400,35 @@ fn longest() {
     show(head, &numbers, &meets, routes, 32, &columns, &rows);
 }
 
+// The pits of a route along row 2, of one down column 3, and of a third.
+fn cross(third: Route) {
+    let mut routes = [route_of(b"rrrrrr", 0, 2, true, true); 32];
+    routes[1] = route_of(b"ccccc", 3, 5, true, false);
+    routes[2] = third;
+    if all_on_grid(routes, 3) {
+        let _ = print_pits(routes, 3);
+    }
+}
+
+// Where cables cross. The third keeps away; it passes the crossing along the row, along the column, and back along the row; it ends there, starts
+// there, turns there; it passes the crossing between two turns; it crosses both beside it.
+fn crossings() {
+    cross(route_of(b"cc", 6, 4, true, true));
+    cross(route_of(b"rrr", 2, 2, true, true));
+    cross(route_of(b"cccccc", 3, 1, true, true));
+    cross(route_of(b"rrrr", 5, 2, false, true));
+    cross(route_of(b"rrr", 0, 2, true, true));
+    cross(route_of(b"cc", 3, 2, true, false));
+    cross(route_of(b"crr", 3, 1, true, true));
+    cross(route_of(b"crrrrc", 1, 1, true, true));
+    cross(route_of(b"rrcc", 2, 1, true, true));
+}
+
 fn main() {
     job_seven();
     one_point();
     no_runs();
     all_ways();
     longest();
+    crossings();
 }

@@ -9,7 +9,7 @@ use Rattle.network.specs.Distinct.{distinct}
 use Rattle.network.specs.Hanan.{hanan}
 use Rattle.network.specs.Route.{Route, Routes, unionLength, Least}
 use Rattle.network.specs.Graph.{centres}
-use Rattle.network.specs.Pits.{unique, pitsOf}
+use Rattle.network.specs.Pits.{unique, amid, passesRow, passesColumn, crossing, crossings, pitPoints, pitsOf}
 use Rattle.job.specs.declared.Run.{Run as Read}
 use Rattle.job.specs.Parse.{accepted}
 use Rattle.plan.specs.Bytes.{over}
@@ -23,7 +23,7 @@ use Rattle.planner.specs.Examples.{blankHead}
 
 -- the bytes of its plan
 pub blank-bytes : (number : ℕ) → bookBytes (blankHead number) [] ≡ planOf number [] []
-unfolding planBytes drawnBytes unionLength edges distinct centres pitsOf unique flatten
+unfolding planBytes drawnBytes unionLength edges distinct centres pitsOf pitPoints crossings crossing passesRow passesColumn amid unique flatten flatMap
 blank-bytes number = refl
 
 -- they are 22

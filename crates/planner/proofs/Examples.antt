@@ -24,7 +24,7 @@ use Rattle.network.proofs.Tests.{and-split}
 use Rattle.network.proofs.Corners.{point-true}
 use Rattle.network.proofs.Hanan.{hanan-all}
 use Rattle.network.proofs.Choices.{ways, indexIn, laneOf, routesOf, inFront, choices, LeastAre, leastTest, least-tested}
-use Rattle.network.specs.Pits.{unique, pitsOf}
+use Rattle.network.specs.Pits.{unique, amid, passesRow, passesColumn, crossing, crossings, pitPoints, pitsOf}
 use Rattle.job.specs.declared.Run.{Run as Read}
 use Rattle.refusal.specs.declared.Refusal.the-variants.{NoStar}
 use Rattle.job.specs.Parse.{Parsed, accepted, refused, follows, coordinatesIn}
@@ -167,7 +167,7 @@ all-sound (e ∷ l) h =
 -- every row of the table holds
 pub examples-hold : All Holds examples
 unfolding test testOf wellTest rises planTest leastTest choices inFront routesOf ways laneOf indexIn samePoint straightOn unionLength lies level len
-    centresOf centres isCentre meets overlap edges inside spans distinct insert gap distance pitsOf unique flatten
+    centresOf centres isCentre meets overlap edges inside spans distinct insert gap distance pitsOf pitPoints crossings crossing passesRow passesColumn amid unique flatten flatMap
 examples-hold = all-sound examples refl
 
 -- ---- job 7 of the listing
@@ -236,12 +236,12 @@ one-plan number runs head entries f w h d e =
 -- job 7 has one least plan, and this is its head and what it says of its runs
 pub job-7 : HasOnePlan 7 job7Runs job7Head job7Entries
 unfolding wellTest rises planTest leastTest choices inFront routesOf ways laneOf indexIn samePoint straightOn unionLength lies level len sameRoutes samePoints
-    centresOf centres isCentre meets degree overlap edges inside spans distinct insert gap distance pitsOf unique flatten
+    centresOf centres isCentre meets degree overlap edges inside spans distinct insert gap distance pitsOf pitPoints crossings crossing passesRow passesColumn amid unique flatten flatMap
 job-7 = one-plan 7 job7Runs job7Head job7Entries (omega arith) refl refl refl refl
 
 -- so has every job without runs: a head whose figures are 0, and no entry
 pub blank-plan : (number : ℕ) → number < 2 ^ 32 → HasOnePlan number [] (blankHead number) []
-unfolding wellTest rises planTest leastTest choices unionLength sameRoutes edges distinct pitsOf unique flatten centres
+unfolding wellTest rises planTest leastTest choices unionLength sameRoutes edges distinct pitsOf pitPoints crossings crossing passesRow passesColumn amid unique flatten flatMap centres
 blank-plan number f = one-plan number [] (blankHead number) [] f refl refl refl refl
 
 -- a call with words and bytes enough for a job with one plan gives that plan's length and leaves its bytes

@@ -1,12 +1,11 @@
 -- The figures and the corners of a well-formed job's plans fit their fields, so that a plan's bytes determine them.
 use mathlib.Core.Path.{_≡_, refl}
-use mathlib.Core.Bool.{Bool, true, false}
-use mathlib.Core.List.{List, [], _∷_, map, flatten}
+use mathlib.Core.List.{List, [], _∷_, map}
 use Prim.Native.Nat.{ℕ, zero, suc, _+_, _*_, _≤_, _<_}
 use native.Mathlib.Omega.{arith}
-use lib.ListN.{length, getD, length-append, length-map}
+use lib.ListN.{length, getD, length-map}
 use Rattle.network.specs.Lists.{sum, All}
-use Rattle.network.specs.Plane.{Point, Run, gap, distance}
+use Rattle.network.specs.Plane.{Point, gap, distance}
 use Rattle.network.specs.Hanan.{xs, ys, hanan}
 use Rattle.network.specs.Route.{Route, Vertex, Routes}
 use Rattle.network.specs.Graph.{meets, below, degree, centres}
@@ -16,8 +15,8 @@ use Rattle.network.proofs.Corners.{corners-routes}
 use Rattle.network.proofs.Hanan.{distinct-listed}
 use Rattle.grid.proofs.Insert.{length-distinct}
 use Rattle.grid.proofs.Places.{count-le}
-use Rattle.network.specs.Pits.{among, unique, pitsOf}
-use Rattle.route.proofs.Few.{manhattan-few}
+use Rattle.network.specs.Pits.{pitsOf}
+use Rattle.network.proofs.Pits.{routes-vertices, pits-few}
 use Rattle.job.specs.declared.Run.{Run as Read}
 use Rattle.job.specs.Written.{noRun, InRange, WellFormed}
 use Rattle.plan.specs.Plan.{headOf, meetsOf}
@@ -70,14 +69,16 @@ all-in : (l : List Read) → AllIn l → (p : List Point) → All (Vertex (hanan
 all-in l h [] v = tt
 all-in l h (p ∷ ps) v = (vertex-in l h p (v .0), all-in l h ps (v .1))
 
-routes-in : (l : List Read) → AllIn l → (rs : List Run) (routes : List Route) → Routes (hanan (runsOf l)) rs routes → All (All PointIn) routes
-routes-in l h [] [] m = tt
-routes-in l h (r ∷ rs) (route ∷ routes) m = (all-in l h route (m .0 .vertices), routes-in l h rs routes (m .1))
+routes-in : (l : List Read) → AllIn l → (routes : List Route) → All (All (Vertex (hanan (runsOf l)))) routes → All (All PointIn) routes
+routes-in l h [] v = tt
+routes-in l h (route ∷ routes) v = (all-in l h route (v .0), routes-in l h routes (v .1))
 
 -- the corners of a plan are in range
 pub corners-in : (l : List Read) → AllIn l → (routes : List Route) → Routes (hanan (runsOf l)) (runsOf l) routes
     → All (All PointIn) (map corners routes)
-corners-in l h routes m = routes-in l h (runsOf l) (map corners routes) (corners-routes (hanan (runsOf l)) (runsOf l) routes m)
+corners-in l h routes m =
+    let g = hanan (runsOf l) in
+    routes-in l h (map corners routes) (routes-vertices g (runsOf l) (map corners routes) (corners-routes g (runsOf l) routes m))
 
 -- ---- figures
 
@@ -97,38 +98,11 @@ pub meets-most : (l : List Read) (i : ℕ) → meetsOf (runsOf l) i ≤ length l
 unfolding degree
 meets-most l i = omega (arith, count-le (meets (hanan (runsOf l)) (runsOf l) i) (length (runsOf l)), length-map l runOf)
 
-unique-few : (l : List Point) → length (unique l) ≤ length l
-unfolding unique
-unique-few [] = omega arith
-unique-few (p ∷ l) = go (among p l) (unique-few l)
-  where
-    go : (b : Bool) → length (unique l) ≤ length l → length {A = Point} (elim b as (λ u. List Point) [ true ↦ unique l | false ↦ p ∷ unique l ]) ≤ suc (length l)
-    go true h = omega arith
-    go false h = omega arith
-
--- routes on at most 64 columns and 64 rows have few corners
-corners-few : (l : List Read) → length l ≤ 32 → (rs : List Run) (routes : List Route) → Routes (hanan (runsOf l)) rs routes
-    → length (flatten (map corners routes)) ≤ 127 * length rs
-unfolding flatten
-corners-few l h [] [] m = omega arith
-corners-few l h (r ∷ rs) (route ∷ routes) m =
-    omega (
-      arith,
-      few-lines l h,
-      manhattan-few (hanan (runsOf l)) r route (m .0),
-      length-append (corners route) (flatten (map corners routes)),
-      corners-few l h rs routes (m .1),
-    )
-
-pub pits-bounded : (l : List Read) → length l ≤ 32 → (routes : List Route) → Routes (hanan (runsOf l)) (runsOf l) routes → pitsOf (map corners routes) ≤ 4064
-unfolding pitsOf
+-- on at most 64 columns and 64 rows there are at most 4,096 pits
+pub pits-bounded : (l : List Read) → length l ≤ 32 → (routes : List Route) → Routes (hanan (runsOf l)) (runsOf l) routes → pitsOf (map corners routes) ≤ 4096
 pits-bounded l h routes m =
-    omega (
-      arith,
-      unique-few (flatten (map corners routes)),
-      corners-few l h (runsOf l) routes m,
-      length-map l runOf,
-    )
+    let g = hanan (runsOf l) in
+    omega (arith, few-lines l h, pits-few g 64 (few-lines l h .1) (runsOf l) (map corners routes) (corners-routes g (runsOf l) routes m))
 
 -- the figures of a plan fit their fields
 pub head-fits : (number : ℕ) (l : List Read) → WellFormed number l → (routes : List Route) → Routes (hanan (runsOf l)) (runsOf l) routes

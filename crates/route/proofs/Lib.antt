@@ -3,7 +3,7 @@ pub mod Lists
 pub mod Lanes
 pub mod Turns
 pub mod Walk
-pub mod Distinct
+pub mod Touched
 pub mod Corners
 pub mod Marks
 pub mod Few

@@ -1,6 +1,6 @@
 -- Lists of routes, as loops pass them: what holds of all, and one more at the end.
-use mathlib.Core.Path.{_≡_, refl, sym, ap, _∙_}
-use mathlib.Core.List.{List, [], _∷_, _++_, map, map-append, flatten, append-assoc, append-nil}
+use mathlib.Core.Path.{_≡_, refl}
+use mathlib.Core.List.{List, [], _∷_, _++_, map, map-append}
 use Prim.Native.Nat.{ℕ, zero, suc, _+_, _<_}
 use native.Mathlib.Nat.{not-suc-le-zero}
 use native.Mathlib.Numerals.{add-one}
@@ -29,25 +29,3 @@ map-cong P f g h (x ∷ l) a = cc (h x (a .0), map-cong P f g h l (a .1))
 -- one more, at the end
 pub map-take : {A B : Type 0} (f : A → B) (l : List A) (i : ℕ) (d : A) → i < length l → map f (take (i + 1) l) ≡ map f (take i l) ++ f (getD l i d) ∷ []
 map-take f l i d h = rw (add-one, take-suc l i d h) (map-append f (take i l) (getD l i d ∷ []))
-
--- one list more, at the end
-pub flatten-last : {A : Type 0} (ls : List (List A)) (l : List A) → flatten (ls ++ l ∷ []) ≡ flatten ls ++ l
-unfolding flatten
-flatten-last [] l = append-nil l
-flatten-last (k ∷ ls) l = ap (λ m. k ++ m) (flatten-last ls l) ∙ sym (append-assoc k (flatten ls) l)
-
--- joining mapped lists is mapping the joined list
-pub flatten-map : {A B : Type 0} (f : A → B) (ls : List (List A)) → flatten (map (map f) ls) ≡ map f (flatten ls)
-unfolding flatten
-flatten-map f [] = refl
-flatten-map f (l ∷ ls) = rw (map-append f l (flatten ls), flatten-map f ls)
-
--- what holds of all their elements holds of the joined list
-pub flatten-all : {A : Type 0} (P : A → Type 0) (ls : List (List A)) → All (All P) ls → All P (flatten ls)
-unfolding flatten
-flatten-all P [] a = tt
-flatten-all {A} P (l ∷ ls) a = join l (a .0) (flatten-all P ls (a .1))
-  where
-    join : (k : List A) → All P k → All P (flatten ls) → All P (k ++ flatten ls)
-    join [] b c = c
-    join (x ∷ k) b c = (b .0, join k (b .1) c)

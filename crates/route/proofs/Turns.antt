@@ -1,5 +1,5 @@
--- The corners of the route that a step list draws are its start, the vertices at which its direction changes, and its end. `turns` lists them by
--- looking at the steps alone, so that it says the same on every grid.
+-- The vertices of the route that a step list draws, and its corners: its start, the vertices at which its direction changes, and its end. `trail` and
+-- `turns` list them by looking at the steps alone, so that they say the same on every grid.
 use mathlib.Core.Path.{_≡_, refl, ap, _∙_}
 use mathlib.Core.Bool.{Bool, true, false, not, _&&_, or-true}
 use mathlib.Core.List.{List, [], _∷_, map}
@@ -22,11 +22,26 @@ abbrev pub passing : Bool → Point → List Point → List Point
 passing true p l = p ∷ l
 passing false p l = l
 
--- the corners still ahead at column i and row j, reached with a heading, on the steps of a list; f gives the vertices
+-- a vertex on a way: whether it is a corner, and the direction in which the way goes on
+pub record Visit : Type 0 where
+  pub spot : Point
+  pub corner : Bool
+  pub dir : Dir
+
+-- the corners among the vertices of a way
+abbrev pub bends : List Visit → List Point
+bends [] = []
+bends (v ∷ l) = passing (v .corner) (v .spot) (bends l)
+
+-- the vertices from column i and row j on, reached with a heading, on the steps of a list; f gives the vertices
+abbrev pub trail : (ℕ → ℕ → Point) → ℕ → ℕ → ℕ → List Dir → List Visit
+trail f i j h [] = record { spot = f i j; corner = true; dir = hor } ∷ []
+trail f i j h (hor ∷ s) = record { spot = f i j; corner = not (eqb 0 h); dir = hor } ∷ trail f (suc i) j 0 s
+trail f i j h (ver ∷ s) = record { spot = f i j; corner = not (eqb 1 h); dir = ver } ∷ trail f i (suc j) 1 s
+
+-- the corners among them
 abbrev pub turns : (ℕ → ℕ → Point) → ℕ → ℕ → ℕ → List Dir → List Point
-turns f i j h [] = f i j ∷ []
-turns f i j h (hor ∷ s) = passing (not (eqb 0 h)) (f i j) (turns f (suc i) j 0 s)
-turns f i j h (ver ∷ s) = passing (not (eqb 1 h)) (f i j) (turns f i (suc j) 1 s)
+turns f i j h s = bends (trail f i j h s)
 
 -- a vertex that is passed is one corner at most
 passing-length : (b : Bool) (p : Point) (l : List Point) → length (passing b p l) ≤ suc (length l)

@@ -1,6 +1,7 @@
--- A walker on a route. The corners that it has still to meet, `left`, go by its own steps; those of the walker that has not moved are the corners
--- of the network's route, on the grid of indexes (`cornersOf`) and, once its lines are looked up, on every grid (`corners-placed`).
-use mathlib.Core.Path.{_≡_, sym, ap, _∙_}
+-- A walker on a route. The vertices that it has still to visit, `visits`, and the corners among them, `left`, go by its own steps; those of the walker
+-- that has not moved are the corners of the network's route, on the grid of indexes (`cornersOf`) and, once its lines are looked up, on every grid
+-- (`corners-placed`).
+use mathlib.Core.Path.{_≡_, refl, sym, ap, _∙_}
 use mathlib.Core.Bool.{Bool, true, false, not}
 use mathlib.Core.List.{List, [], _∷_, _++_}
 use Prim.Native.Nat.{ℕ, zero, suc, _+_, _-_, _≤_, _<_}
@@ -17,10 +18,10 @@ use Rattle.route.specs.declared.Stepped.{Stepped}
 use Rattle.route.specs.Route.{dirOf, stepsOf, columnsOf, rowsOf, OnGrid, numbered}
 use Rattle.network.specs.Entries.{length-below}
 use Rattle.route.specs.Walker.{headingOf, ahead, standing, nextOf, stepped, Free}
-use Rattle.route.specs.Marked.{crossing}
+use Rattle.route.specs.Marked.{indexesOf}
 use Rattle.network.proofs.StepCounts.{steps-take, steps-all, step-along, step-across}
 use Rattle.route.proofs.Lanes.{fits-few, columns-extent, rows-extent, lane-start, lane-following, lane-in, lane-room}
-use Rattle.route.proofs.Turns.{passing, turns}
+use Rattle.route.proofs.Turns.{passing, Visit, bends, trail}
 
 -- ---- the step list
 
@@ -129,28 +130,32 @@ on-start r f g =
       row = lane-start (r .up) (r .start .row) (steps ver (stepsOf r));
     }
 
--- ---- the corners ahead
+-- ---- the vertices ahead
 
--- the corners that a walker has still to meet: with n steps left, and on its route
-abbrev pub leftIn : ℕ → Route → Walker → List Point
-leftIn zero r w = crossing (w .here) ∷ []
-leftIn (suc n) r w = passing (stepped r w .turned) (crossing (w .here)) (leftIn n r (stepped r w .walker))
+-- the vertices from a walker on: with n steps left, and on its route
+abbrev pub visitsIn : ℕ → Route → Walker → List Visit
+visitsIn zero r w = record { spot = indexesOf (w .here); corner = true; dir = hor } ∷ []
+visitsIn (suc n) r w = record { spot = indexesOf (w .here); corner = stepped r w .turned; dir = nextOf r w } ∷ visitsIn n r (stepped r w .walker)
 
-unfoldable pub left : Route → Walker → List Point
-left r w = leftIn (r .count - w .at) r w
+unfoldable pub visits : Route → Walker → List Visit
+visits r w = visitsIn (r .count - w .at) r w
+
+-- the corners that a walker has still to meet
+abbrev pub left : Route → Walker → List Point
+left r w = bends (visits r w)
 
 -- a corner is ahead, the last if no other
 pub left-some : (r : Route) (w : Walker) → 0 < length (left r w)
-unfolding left
+unfolding visits
 left-some r w = go (r .count - w .at) w
   where
     passing-some : (b : Bool) (p : Point) (l : List Point) → 0 < length l → 0 < length (passing b p l)
     passing-some true p l h = omega arith
     passing-some false p l h = h
 
-    go : (n : ℕ) (v : Walker) → 0 < length (leftIn n r v)
+    go : (n : ℕ) (v : Walker) → 0 < length (bends (visitsIn n r v))
     go zero v = omega arith
-    go (suc n) v = passing-some (stepped r v .turned) (crossing (v .here)) (leftIn n r (stepped r v .walker)) (go n (stepped r v .walker))
+    go (suc n) v = passing-some (stepped r v .turned) (indexesOf (v .here)) (bends (visitsIn n r (stepped r v .walker))) (go n (stepped r v .walker))
 
 module _ (r : Route) (w : Walker) (s : Stepped) (o : On r w) (h : w .at < r .count) (e : s ≡ stepped r w) where
   -- the walker after a step
@@ -161,50 +166,58 @@ module _ (r : Route) (w : Walker) (s : Stepped) (o : On r w) (h : w .at < r .cou
   pub on-step : On r (s .walker)
   on-step = rw e (on-next r w o h)
 
-  -- what is left before the step, by what is left after it
-  left-next : left r w ≡ passing (s .turned) (crossing (w .here)) (left r (s .walker))
-  unfolding left
-  left-next =
+  -- what is ahead before the step, by what is ahead after it
+  pub visits-next : visits r w ≡ record { spot = indexesOf (w .here); corner = s .turned; dir = dirOf (s .walker .heading) } ∷ visits r (s .walker)
+  unfolding visits
+  visits-next =
       let n : r .count - w .at ≡ suc (r .count - suc (w .at)) = omega arith in
-      rw (n, e)
+      rw (n, e, heading-dir (nextOf r w))
+    where
+      heading-dir : (d : Dir) → dirOf (headingOf d) ≡ d
+      heading-dir hor = refl
+      heading-dir ver = refl
 
   -- a step that turns passes a corner
-  pub left-turned : s .turned ≡ true → left r w ≡ crossing (w .here) ∷ left r (s .walker)
-  left-turned t = left-next ∙ rw t
+  pub left-turned : s .turned ≡ true → left r w ≡ indexesOf (w .here) ∷ left r (s .walker)
+  left-turned t = ap bends visits-next ∙ rw t
 
   -- and one that goes straight on passes none
   pub left-straight : s .turned ≡ false → left r w ≡ left r (s .walker)
-  left-straight t = left-next ∙ rw t
+  left-straight t = ap bends visits-next ∙ rw t
 
--- at the end one corner is left
-pub left-end : (r : Route) (w : Walker) → On r w → r .count ≤ w .at → left r w ≡ crossing (w .here) ∷ []
-unfolding left
-left-end r w o h =
+-- at the end one vertex is left, a corner
+pub visits-end : (r : Route) (w : Walker) → On r w → r .count ≤ w .at → visits r w ≡ record { spot = indexesOf (w .here); corner = true; dir = hor } ∷ []
+unfolding visits
+visits-end r w o h =
     let n : r .count - w .at ≡ 0 = omega (arith, o .passed) in
     rw n
+
+pub left-end : (r : Route) (w : Walker) → On r w → r .count ≤ w .at → left r w ≡ indexesOf (w .here) ∷ []
+left-end r w o h = ap bends (visits-end r w o h)
 
 -- the vertices of a route, by the steps that lead there
 abbrev pub vertexAt : Route → ℕ → ℕ → Point
 vertexAt r i j = record { x = at (columnsOf r) i; y = at (rowsOf r) j }
 
 -- the walker is at one of them
-here-at : (r : Route) (w : Walker) → On r w → crossing (w .here) ≡ vertexAt r (taken hor r w) (taken ver r w)
+here-at : (r : Route) (w : Walker) → On r w → indexesOf (w .here) ≡ vertexAt r (taken hor r w) (taken ver r w)
 here-at r w o = λ k. record { x = o .column k; y = o .row k }
 
--- the walker turns where the steps do
-pub left-turns : (n : ℕ) (r : Route) (w : Walker) → On r w → w .at + n ≡ r .count
-    → leftIn n r w ≡ turns (vertexAt r) (taken hor r w) (taken ver r w) (w .heading) (drop (w .at) (stepsOf r))
-left-turns zero r w o h =
+-- the walker visits what the steps do
+pub visits-trail : (n : ℕ) (r : Route) (w : Walker) → On r w → w .at + n ≡ r .count
+    → visitsIn n r w ≡ trail (vertexAt r) (taken hor r w) (taken ver r w) (w .heading) (drop (w .at) (stepsOf r))
+visits-trail zero r w o h =
     rw (drop-of-length-le (stepsOf r) {i = w .at} (omega (arith, steps-length r (o .full) (o .grid .held))), here-at r w o)
-left-turns (suc n) r w o h =
+visits-trail (suc n) r w o h =
     let k : w .at < r .count = omega arith in
-    go (nextOf r w) (taken-next r (o .full) (o .grid .held) (w .at) k) (rest-next r (o .full) (o .grid .held) (w .at) k) (leftIn n r (stepped r w .walker))
-    (left-turns n r (stepped r w .walker) (on-next r w o k) (omega arith))
+    go (nextOf r w) (taken-next r (o .full) (o .grid .held) (w .at) k) (rest-next r (o .full) (o .grid .held) (w .at) k) (visitsIn n r (stepped r w .walker))
+    (visits-trail n r (stepped r w .walker) (on-next r w o k) (omega arith))
   where
     go : (d : Dir) → take (suc (w .at)) (stepsOf r) ≡ take (w .at) (stepsOf r) ++ d ∷ [] → drop (w .at) (stepsOf r) ≡ d ∷ drop (suc (w .at)) (stepsOf r)
-        → (l : List Point)
-        → l ≡ turns (vertexAt r) (steps hor (take (suc (w .at)) (stepsOf r))) (steps ver (take (suc (w .at)) (stepsOf r))) (headingOf d) (drop (suc (w .at)) (stepsOf r))
-        → passing (not (eqb (headingOf d) (w .heading))) (crossing (w .here)) l ≡ turns (vertexAt r) (taken hor r w) (taken ver r w) (w .heading) (drop (w .at) (stepsOf r))
+        → (l : List Visit)
+        → l ≡ trail (vertexAt r) (steps hor (take (suc (w .at)) (stepsOf r))) (steps ver (take (suc (w .at)) (stepsOf r))) (headingOf d) (drop (suc (w .at)) (stepsOf r))
+        → record { spot = indexesOf (w .here); corner = not (eqb (headingOf d) (w .heading)); dir = d } ∷ l
+        ≡ trail (vertexAt r) (taken hor r w) (taken ver r w) (w .heading) (drop (w .at) (stepsOf r))
     go hor t e l ih =
         rw (e, here-at r w o, ih, t, step-along hor (take (w .at) (stepsOf r)), step-across ver (take (w .at) (stepsOf r)))
     go ver t e l ih =

@@ -1,27 +1,56 @@
--- Marks that count pits: a byte for each vertex of the grid of indexes.
+-- Marks that find pits: a byte for each vertex of the grid of indexes, of two binary digits. The lower is set where a route turns, ends or passes
+-- along the row, the upper where one turns, ends or passes along the column. At a pit both are.
 use mathlib.Core.Path.{_≡_}
-use mathlib.Core.Bool.{not}
-use mathlib.Core.List.{List, _++_}
+use mathlib.Core.Bool.{Bool, true, false, cond, _&&_, _||_}
+use mathlib.Core.List.{List, [], _∷_}
 use Prim.Native.Nat.{ℕ, _+_, _*_, _<_}
 use lib.ListN.{length, getD}
 use lib.Dec.{eqb}
+use Rattle.network.specs.Lists.{any, count, each}
 use Rattle.network.specs.Plane.{Point}
-use Rattle.network.specs.Pits.{among, unique}
+use Rattle.network.specs.Route.{Route as Points, pieces}
+use Rattle.network.specs.Steps.{Dir, hor, ver}
+use Rattle.network.specs.Passes.{passes}
+use Rattle.network.specs.Corners.{samePoint}
+use Rattle.network.specs.Pits.{among}
 use Rattle.route.specs.declared.Vertex.{Vertex}
 
 -- a vertex as a point of the grid of indexes
-abbrev pub crossing : Vertex → Point
-crossing v = record { x = v .column; y = v .row }
+abbrev pub indexesOf : Vertex → Point
+indexesOf v = record { x = v .column; y = v .row }
 
 abbrev pub markOf : Point → ℕ
 markOf p = p .y * 64 + p .x
 
--- exactly the vertices of a list are marked
-pub record Marked (marks : List ℕ) (l : List Point) : Type 0 where
-  pub size : length marks ≡ 4096
-  pub marked : (p : Point) → p .x < 64 → p .y < 64 → eqb (getD marks (markOf p) 0) 0 ≡ not (among p l)
+-- the byte of two digits
+abbrev pub digits : Bool → Bool → ℕ
+digits lower upper = cond upper 2 0 + cond lower 1 0
 
--- from the marks ms to ns the points of `added` were marked, of which n were new
-pub record Counted (ms ns : List ℕ) (added : List Point) (n : ℕ) : Type 0 where
-  pub marked : (l : List Point) → Marked ms l → Marked ns (l ++ added)
-  pub new : (l : List Point) → Marked ms l → length (unique (l ++ added)) ≡ length (unique l) + n
+-- the digits set are those that a test tells: hor the lower, ver the upper
+pub record Marked (marks : List ℕ) (set : Dir → Point → Bool) : Type 0 where
+  pub size : length marks ≡ 4096
+  pub marked : (p : Point) → p .x < 64 → p .y < 64 → getD marks (markOf p) 0 ≡ digits (set hor p) (set ver p)
+
+-- how many vertices have both digits set
+unfoldable pub full : List ℕ → ℕ
+full marks = count (λ p. eqb (getD marks (markOf p) 0) 3) (each 64 (λ i. each 64 (λ j. record { x = i; y = j } ∷ [])))
+
+-- from the marks ms to ns the digits of `added` were set, and n pits came
+pub record Counted (ms ns : List ℕ) (added : Dir → Point → Bool) (n : ℕ) : Type 0 where
+  pub marked : (set : Dir → Point → Bool) → Marked ms set → Marked ns (λ d p. set d p || added d p)
+  pub new : (set : Dir → Point → Bool) → Marked ms set → full ns ≡ full ms + n
+
+-- the two directions are one
+abbrev pub along : Dir → Dir → Bool
+along hor hor = true
+along hor ver = false
+along ver hor = false
+along ver ver = true
+
+-- a route that turns or ends at v sets both digits there, one that goes straight on in a direction sets that one
+abbrev pub visited : Vertex → Bool → Dir → Dir → Point → Bool
+visited v corner dir d p = samePoint p (indexesOf v) && (corner || along d dir)
+
+-- the digits of a route that is given by its corners
+abbrev pub touched : Points → Dir → Point → Bool
+touched route d p = among p route || any (passes d p) (pieces route)

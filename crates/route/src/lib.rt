@@ -1,13 +1,15 @@
 // Routes on the lines of a grid: the walker along a route, its corners, and the pits of several routes. A line is named by its index
 // among the columns or the rows.
 ghost use mathlib.Core.Path.{_≡_};
-ghost use mathlib.Core.List.{[], _∷_, map};
+ghost use mathlib.Core.Bool.{_||_};
+ghost use mathlib.Core.List.{map};
 ghost use Prim.Native.Nat.{_<_, _≤_};
 ghost use lib.ListN.{length, getD, take};
 ghost use Rattle.network.specs.Lists.{All};
+ghost use Rattle.network.specs.Steps.{hor, ver};
 ghost use Rattle.route.specs.Route.{dirOf, numbered, OnGrid, cornersOf};
 ghost use Rattle.route.specs.Walker.{headingOf, following, ahead, standing, stepped, Room, Free};
-ghost use Rattle.route.specs.Marked.{crossing, Counted};
+ghost use Rattle.route.specs.Marked.{digits, Counted, along, visited, touched};
 ghost use Rattle.network.specs.Pits.{pitsOf};
 
 // Where a column and a row cross.
@@ -120,40 +122,60 @@ pub fn corner_count(route: Route) -> usize
     n
 }
 
-// Marks a vertex, and says 1 if it was not marked before, else 0.
-fn mark(marks: &mut [u8; 4096], v: Vertex) -> usize
+// The digits of a mark: a route passes the vertex along its row, one along its column; at a pit both are set.
+const ROW: u8 = 1;
+
+const COLUMN: u8 = 2;
+
+const PIT: u8 = 3;
+
+// The digits of a vertex at which a route turns or ends, or else goes straight on with a heading.
+fn digits_of(corner: bool, heading: u8) -> u8
+    ensures { λ d. ⌜ d ≡ digits (corner || along hor (dirOf heading)) (corner || along ver (dirOf heading)) ⌝ }
+{
+    if corner {
+        PIT
+    } else if heading == 0 {
+        ROW
+    } else {
+        COLUMN
+    }
+}
+
+// Marks a vertex of a route, and says 1 if it is a pit only now, else 0.
+fn mark(marks: &mut [u8; 4096], v: Vertex, corner: bool, heading: u8) -> usize
     requires { ⌜ (v .column < 64) × (v .row < 64) ⌝ }
-    ensures { λ n. ⌜ Counted (now (marks .entry)) (now (marks .exit)) (crossing v ∷ []) n × (n ≤ 1) ⌝ }
+    ensures { λ n. ⌜ Counted (now (marks .entry)) (now (marks .exit)) (visited v corner (dirOf heading)) n × (n ≤ 1) ⌝ }
 {
     let column = v.column;
     let row = v.row;
     let k = row * 64 + column;
-    if marks[k] == 0 {
-        marks[k] = 1;
+    let before = marks[k];
+    let after = before | digits_of(corner, heading);
+    marks[k] = after;
+    if (after == PIT) & (before != PIT) {
         1
     } else {
         0
     }
 }
 
-// Marks the corners of a route, and says how many were not marked before.
-fn mark_corners(marks: &mut [u8; 4096], route: Route) -> usize
+// Marks the vertices of a route, and says how many pits came.
+fn mark_route(marks: &mut [u8; 4096], route: Route) -> usize
     requires { ⌜ OnGrid numbered route ⌝ }
-    ensures { λ n. ⌜ Counted (now (marks .entry)) (now (marks .exit)) (cornersOf route) n × (n ≤ 127) ⌝ }
+    ensures { λ n. ⌜ Counted (now (marks .entry)) (now (marks .exit)) (touched (cornersOf route)) n × (n ≤ 127) ⌝ }
 {
     let mut w = Walker::start(route);
     let mut n: usize = 0;
     while w.at < route.count {
         let s = w.step(route);
-        if s.turned {
-            n += mark(marks, w.here);
-        }
+        n += mark(marks, w.here, s.turned, s.walker.heading);
         w = s.walker;
     }
-    n + mark(marks, w.here)
+    n + mark(marks, w.here, true, 0)
 }
 
-// The pits of the first `count` routes. Each kind of pit marks its vertices, and the new marks are counted.
+// The pits of the first `count` routes: every vertex of a route is marked, and the pits that come are counted.
 pub fn pits(routes: [Route; 32], count: usize) -> usize
     requires { ⌜ (count ≤ 32) × All (OnGrid numbered) (take count routes) ⌝ }
     ensures { λ n. ⌜ (n ≡ pitsOf (map cornersOf (take count routes))) × (n ≤ 4064) ⌝ }
@@ -163,7 +185,7 @@ pub fn pits(routes: [Route; 32], count: usize) -> usize
     let mut i: usize = 0;
     while i < count {
         let r = routes[i];
-        n += mark_corners(&mut marks, r);
+        n += mark_route(&mut marks, r);
         i += 1;
     }
     n

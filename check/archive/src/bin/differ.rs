@@ -4,14 +4,18 @@
 use std::process::ExitCode;
 use std::time::{Instant, SystemTime, UNIX_EPOCH};
 
-use trench_archive::call::{Against, Function, Guarded, GuardedReader, Reader, frame_of};
+use trench_archive::call::{Against, Function, Guarded, GuardedReader, Reader, frame_of, plan};
 use trench_archive::ended;
 use trench_archive::program::{printed_by, table_figure};
 use trench_check::book_cases::book_case;
-use trench_check::compare::{case, try_cases, try_listing};
+use trench_check::compare::{case, crossed_case, try_case, try_cases, try_listing};
+use trench_check::job::Point;
+use trench_check::pits;
+use trench_check::plan_book::PlanBook;
 use trench_check::planner::plan_surveyed;
+use trench_check::random::Random;
 use trench_check::read_back::{try_books, try_plan_listing};
-use trench_check::refusal::surveyed;
+use trench_check::refusal::{PLAN_ROOM, surveyed};
 use trench_check::report::{Report, Subject};
 
 const USAGE: &str = "\
@@ -19,6 +23,7 @@ usage: differ COUNT                          so many jobs, and then plan books, 
                                              which is printed
        differ SEED FROM TO                   the jobs FROM to TO - 1 of a seed; each is named before it is tried
        differ --plans SEED FROM TO           likewise the plan books
+       differ --crossed COUNT                so many small stars in which cables cross, of both seeds
        differ --table COUNT                  jobs for the plain C planner in place of the archive's
        differ --table SEED FROM TO           likewise
        differ --listing PROGRAM COUNT        the same jobs for a program that reads a job book and prints its plan's listing
@@ -39,6 +44,7 @@ fn main() -> ExitCode {
             numbers(&[plans]).map(|n| seeds(n[0], |seed, plans| plans_listed(program, seed, plans)))
         }
         ["--rounds", program, jobs] => numbers(&[jobs]).map(|n| seeds(n[0], |seed, jobs| filled(program, seed, jobs))),
+        ["--crossed", jobs] => numbers(&[jobs]).map(|n| seeds(n[0], crossed)),
         ["--table", ref rest @ ..] => numbers(rest).and_then(|numbers| planned(Function::Table, &numbers)),
         ["--plans", seed, from, to] => numbers(&[seed, from, to]).map(|n| plan_by_plan(n[0], n[1], n[2])),
         ref all => numbers(all).and_then(|numbers| compared(&numbers)),
@@ -100,6 +106,35 @@ fn on_two_threads(share: impl Fn(u64) -> Report + Sync) -> Report {
         report.add(odd.join().expect("the comparison itself does not fail"));
         report
     })
+}
+
+/// Tries the first small stars of a seed in which cables cross. Where fewer than a third of the plans have a pit that only a
+/// crossing asks for, which about two thirds have, the trial is idle: that is a fault too.
+fn crossed(seed: u64, jobs: u64) -> Report {
+    let mut report = Report::of(Subject::Jobs);
+    let mut caller = Guarded::new(Function::Archive, Against::Back);
+    let mut crossings = 0;
+    for n in 0..jobs {
+        let before = report.faults.len();
+        let case = crossed_case(seed, n);
+        try_case(&mut caller, &case, &mut Random::nth(!seed, n), &mut report);
+        report.faults[before..].iter_mut().for_each(|fault| *fault = format!("seed {seed} job {n}: {fault}"));
+        crossings += u64::from(has_crossing(&case.bytes));
+    }
+    println!("{crossings} plans with a pit for a crossing alone");
+    if 3 * crossings < jobs {
+        report.faults.push(format!("seed {seed}: only {crossings} of {jobs} plans have such a pit"));
+    }
+    report
+}
+
+/// Whether the archive's plan of a job has a pit at which no route ends or turns.
+fn has_crossing(job: &[u8]) -> bool {
+    let mut out = vec![0; PLAN_ROOM];
+    let length = usize::try_from(plan(Function::Archive, job, &mut out)).ok();
+    let Some(book) = length.and_then(|length| PlanBook::read(&out[..length]).ok()) else { return false };
+    let routes: Vec<&[Point]> = book.routes.iter().map(|route| &route.corners[..]).collect();
+    !pits::of_corners(&routes).crossings.is_empty()
 }
 
 /// Has a program list the first jobs of a seed.

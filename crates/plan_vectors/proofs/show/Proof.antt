@@ -24,26 +24,8 @@ print-requires c κs = search needs
 returns-2 : tie.Need-returns-2
 returns-2 c = search needs
 
-print-routes-requires : tie.Need-print-routes-requires
-print-routes-requires c κs = (omega arith, c .before .all-on-grid .ensures (not-false _ (c .if2 .left)))
-
-pits-requires : tie.Need-pits-requires
-pits-requires c κs = (omega arith, c .before .before .all-on-grid .ensures (not-false _ (c .before .if2 .left)))
-
-slice-aggregate-print-2 : tie.Need-slice-aggregate-print-2
-slice-aggregate-print-2 c = search needs
-
-print-requires-2 : tie.Need-print-requires-2
-print-requires-2 c κs = search needs
-
-print-number-requires : tie.Need-print-number-requires
-print-number-requires c κs = search needs
-
-slice-aggregate-print-3 : tie.Need-slice-aggregate-print-3
-slice-aggregate-print-3 c = search needs
-
-print-requires-3 : tie.Need-print-requires-3
-print-requires-3 c κs = search needs
+print-pits-requires : tie.Need-print-pits-requires
+print-pits-requires c κs = (omega arith, c .before .all-on-grid .ensures (not-false _ (c .if2 .left)))
 
 cast-figures : tie.Need-cast-figures
 cast-figures c = search needs
@@ -53,10 +35,11 @@ slice-aggregate-write-plan c = search needs
 
 write-plan-requires : tie.Need-write-plan-requires
 write-plan-requires c κs =
-    let s = c .before .before .before .before .before .before .before .before .before .before .before in
-    let few : s .args .count ≤ 32 = omega (arith, c .before .before .before .before .before .before .before .before .before .before .if1 .left) in
+    let t = c .before .before in
+    let s = t .before .before .before in
+    let few : s .args .count ≤ 32 = omega (arith, t .before .before .if1 .left) in
     let short : length (take (s .args .count) (s .args .routes)) ≤ 32 = omega (arith, length-take (s .args .count) (s .args .routes)) in
-    let a = c .before .before .before .before .before .before .before .before .before .all-on-grid .ensures (not-false _ (c .before .before .before .before .before .before .before .before .if2 .left)) in
+    let a = t .before .all-on-grid .ensures (not-false _ (t .if2 .left)) in
     (few, a, le-trans (written-most _ _ _ _ _ _ short a) (search needs))
 
 slice-aggregate-print-plan : tie.Need-slice-aggregate-print-plan
@@ -70,10 +53,11 @@ slice-aggregate-write-plan-2 c = search needs
 
 write-plan-requires-2 : tie.Need-write-plan-requires-2
 write-plan-requires-2 c κs =
-    let s = c .before .before .before .before .before .before .before .before .before .before .before .before .before .before .before .before in
-    let few : s .args .count ≤ 32 = omega (arith, c .before .before .before .before .before .before .before .before .before .before .before .before .before .before .before .if1 .left) in
+    let t = c .before .before .before .before .before .before .before in
+    let s = t .before .before .before in
+    let few : s .args .count ≤ 32 = omega (arith, t .before .before .if1 .left) in
     let short : length (take (s .args .count) (s .args .routes)) ≤ 32 = omega (arith, length-take (s .args .count) (s .args .routes)) in
-    let a = c .before .before .before .before .before .before .before .before .before .before .before .before .before .before .all-on-grid .ensures (not-false _ (c .before .before .before .before .before .before .before .before .before .before .before .before .before .if2 .left)) in
+    let a = t .before .all-on-grid .ensures (not-false _ (t .if2 .left)) in
     (few, a, le-trans (written-most _ _ _ _ _ _ short a) (search needs))
 
 slice-aggregate-print-plan-2 : tie.Need-slice-aggregate-print-plan-2
@@ -94,13 +78,7 @@ show-spec =
     slice-aggregate-print
     print-requires
     returns-2
-    print-routes-requires
-    pits-requires
-    slice-aggregate-print-2
-    print-requires-2
-    print-number-requires
-    slice-aggregate-print-3
-    print-requires-3
+    print-pits-requires
     cast-figures
     slice-aggregate-write-plan
     write-plan-requires

@@ -1,8 +1,10 @@
--- `route::mark` meets its contract: on each way the mark that stood there is known.
+-- `route::mark` meets its contract: on each way it is known whether the vertex is a pit only now.
+use mathlib.Core.Bool.{true, false, _||_}
 use native.Mathlib.Omega.{arith}
 use borrow.Author.Needs.{needs}
-use Rattle.route.specs.Marked.{crossing}
-use Rattle.route.proofs.Marks.{mark-first, mark-again}
+use Rattle.route.specs.Marked.{indexesOf, along}
+use Rattle.route.specs.Route.{dirOf}
+use Rattle.route.proofs.Marks.{mark-one}
 use Rattle.route.proofs.mark.Statement.{statement}
 use Rattle.route.proofs.mark.Tie as tie
 
@@ -12,24 +14,27 @@ mul-k c = search needs
 add-k : tie.Need-add-k
 add-k c = search needs
 
-element-copy-out-if1 : tie.Need-element-copy-out-if1
-element-copy-out-if1 c = search needs
+element-copy-out-before : tie.Need-element-copy-out-before
+element-copy-out-before c = search needs
+
+digits-of-requires : tie.Need-digits-of-requires
+digits-of-requires c κs = search needs
 
 element-write-marks : tie.Need-element-write-marks
 element-write-marks c = search needs
 
 returns : tie.Need-returns
 returns c =
-    let a = c .before .before .args in
-    let p = c .before .before .pre in
-    (mark-first (a .marks .now) (crossing (a .v)) (p .0) (p .1) (c .if1 .taken), omega arith)
+    let s = c .before .before .before in
+    let a = s .args in
+    (mark-one (a .marks .now) (indexesOf (a .v)) (λ d. a .corner || along d (dirOf (a .heading))) (s .pre .0) (s .pre .1) _ (c .before .digits-of .ensures) true (c .if1 .taken), omega arith)
 
 returns-2 : tie.Need-returns-2
 returns-2 c =
-    let a = c .before .before .args in
-    let p = c .before .before .pre in
-    (mark-again (a .marks .now) (crossing (a .v)) (p .0) (p .1) (c .if1 .left), omega arith)
+    let s = c .before .before .before in
+    let a = s .args in
+    (mark-one (a .marks .now) (indexesOf (a .v)) (λ d. a .corner || along d (dirOf (a .heading))) (s .pre .0) (s .pre .1) _ (c .before .digits-of .ensures) false (c .if1 .left), omega arith)
 
 pub mark-spec : {M : Type 1} → statement M
 mark-spec =
-    tie.close (tie.spec mul-k add-k element-copy-out-if1 element-write-marks returns returns-2)
+    tie.close (tie.spec mul-k add-k element-copy-out-before digits-of-requires element-write-marks returns returns-2)

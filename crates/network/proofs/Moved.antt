@@ -1,0 +1,128 @@
+-- Columns and rows that are moved and stay in their order keep the pits: corners and crossings go where their lines go.
+use mathlib.Core.Path.{_≡_, refl, sym, ap, ap₂, _∙_}
+use mathlib.Core.Logic.{_⊎_, inl, inr}
+use mathlib.Core.Bool.{Bool, true, false, cond, _&&_}
+use mathlib.Core.List.{List, [], _∷_, _++_, map, map-append, flatten, flatMap}
+use Prim.Native.Nat.{ℕ, _≤_, _<_}
+use native.Mathlib.Omega.{arith}
+use borrow.Author.Tests.{ltb-true, lt-ltb, eqb-true, eq-eqb}
+use lib.Dec.{eqb, ltb}
+use lib.ListN.{length, getD}
+use Rattle.network.specs.Lists.{All}
+use Rattle.network.specs.Plane.{Point, Run, _to_}
+use Rattle.network.specs.Grid.{Rising}
+use Rattle.network.specs.Route.{Route, piecesFrom, pieces, level}
+use Rattle.network.specs.Corners.{samePoint}
+use Rattle.network.specs.Pits.{unique, amid, passesRow, passesColumn, crossing, crossings, pitPoints, pitsOf}
+use Rattle.network.proofs.Tests.{same-test}
+use Rattle.network.proofs.Lists.{all-flatMap, flatten-map, flatMap-map}
+use Rattle.network.proofs.Rising.{rising-lt, rising-le, one-index}
+use Rattle.network.proofs.Numbers.{order}
+use Rattle.network.proofs.Points.{unique-map}
+use Rattle.network.proofs.Pits.{pits-all}
+
+-- f keeps the order of the numbers in X
+abbrev pub Keeps : (ℕ → Type 0) → (ℕ → ℕ) → Type 0
+Keeps X f = (a b : ℕ) → X a → X b → (ltb (f a) (f b) ≡ ltb a b) × (eqb (f a) (f b) ≡ eqb a b)
+
+-- the numbers of a rising list are in the order of their indexes
+pub rising-keeps : (l : List ℕ) → Rising l → Keeps (λ i. i < length l) (λ i. getD l i 0)
+rising-keeps l r a b h k = (
+  same-test (ltb (getD l a 0) (getD l b 0)) (ltb a b)
+      (λ t. lt-ltb a b (after (order b a) (ltb-true (getD l a 0) (getD l b 0) t)))
+      (λ t. lt-ltb (getD l a 0) (getD l b 0) (rising-lt l r a b (ltb-true a b t) k)),
+  same-test (eqb (getD l a 0) (getD l b 0)) (eqb a b)
+      (λ t. eq-eqb a b (one-index l r a b h k (eqb-true (getD l a 0) (getD l b 0) t)))
+      (λ t. eq-eqb (getD l a 0) (getD l b 0) (ap (λ i. getD l i 0) (eqb-true a b t))),
+)
+  where
+    after : (b ≤ a) ⊎ (a < b) → getD l a 0 < getD l b 0 → a < b
+    after (inl o) t = omega (arith, rising-le l r b a o h)
+    after (inr o) t = o
+
+module _ (X : ℕ → Type 0) (f : ℕ → ℕ) (k : Keeps X f) (a b v : ℕ) (p : X a) (q : X b) (o : X v) where
+  level-kept : level (f a) (f b) (f v) ≡ level a b v
+  unfolding level
+  level-kept = ap₂ _&&_ (k a v p o .1) (k b v q o .1)
+
+  amid-kept : amid (f a) (f b) (f v) ≡ amid a b v
+  unfolding amid
+  amid-kept = rw (k a v p o .0, k v b o q .0, k b v q o .0, k v a o p .0)
+
+-- the columns are moved by f, the rows by h
+module _ (X Y : ℕ → Type 0) (f h : ℕ → ℕ) (keeps-x : Keeps X f) (keeps-y : Keeps Y h) where
+  abbrev moved : Point → Point
+  moved p = record { x = f (p .x); y = h (p .y) }
+
+  abbrev movedPiece : Run → Run
+  movedPiece r = moved (r .first) to moved (r .second)
+
+  abbrev In : Point → Type 0
+  In p = X (p .x) × Y (p .y)
+
+  abbrev Within : Run → Type 0
+  Within r = In (r .first) × In (r .second)
+
+  -- a crossing goes where its lines go
+  crossing-moved : (r s : Run) → Within r → Within s → crossing (movedPiece r) (movedPiece s) ≡ map moved (crossing r s)
+  unfolding crossing passesRow passesColumn
+  crossing-moved r s (a, b) (c, d) =
+      rw (
+        level-kept Y h keeps-y (r .first .y) (r .second .y) (r .first .y) (a .1) (b .1) (a .1),
+        amid-kept X f keeps-x (r .first .x) (r .second .x) (s .first .x) (a .0) (b .0) (c .0),
+        level-kept X f keeps-x (s .first .x) (s .second .x) (s .first .x) (c .0) (d .0) (c .0),
+        amid-kept Y h keeps-y (s .first .y) (s .second .y) (r .first .y) (c .1) (d .1) (a .1),
+      )
+      (go (passesRow q r && passesColumn q s))
+    where
+      q : Point
+      q = record { x = s .first .x; y = r .first .y }
+
+      go : (t : Bool) → cond t (moved q ∷ []) [] ≡ map moved (cond t (q ∷ []) [])
+      go true = refl
+      go false = refl
+
+  -- the crossings of pieces go where their lines go
+  crossings-moved : (l : List Run) → All Within l → crossings (map movedPiece l) ≡ map moved (crossings l)
+  unfolding crossings
+  crossings-moved l a =
+      flatMap-map Within movedPiece moved (λ r. flatMap (crossing r) l) (λ r. flatMap (crossing r) (map movedPiece l))
+      (λ r b. flatMap-map Within movedPiece moved (crossing r) (crossing (movedPiece r)) (λ s c. crossing-moved r s b c) l a) l a
+
+  -- the pieces of a route
+  pieces-moved : (route : Route) → pieces (map moved route) ≡ map movedPiece (pieces route)
+  pieces-moved [] = refl
+  pieces-moved (p ∷ l) = go p l
+    where
+      go : (p : Point) (l : List Point) → piecesFrom (moved p) (map moved l) ≡ map movedPiece (piecesFrom p l)
+      go p [] = refl
+      go p (q ∷ l) = ap (λ m. movedPiece (p to q) ∷ m) (go q l)
+
+  pieces-within : (route : Route) → All In route → All Within (pieces route)
+  pieces-within [] a = tt
+  pieces-within (p ∷ l) a = go p l a
+    where
+      go : (p : Point) (l : List Point) → All In (p ∷ l) → All Within (piecesFrom p l)
+      go p [] a = tt
+      go p (q ∷ l) a = ((a .0, a .1 .0), go q l (a .1))
+
+  -- so the pits do
+  pits-moved : (routes : List Route) → All (All In) routes → pitPoints (map (map moved) routes) ≡ map moved (pitPoints routes)
+  unfolding pitPoints
+  pits-moved routes a =
+      ap₂ _++_ (flatten-map moved routes)
+      (ap crossings (flatMap-map (All In) (map moved) movedPiece pieces pieces (λ route b. pieces-moved route) routes a)
+      ∙ crossings-moved (flatMap pieces routes) (all-flatMap (All In) Within pieces pieces-within routes a))
+      ∙ sym (map-append moved (flatten routes) (crossings (flatMap pieces routes)))
+
+  -- points of the same lines are the same
+  same-kept : (p q : Point) → In p → In q → samePoint (moved p) (moved q) ≡ samePoint p q
+  unfolding samePoint
+  same-kept p q a b = ap₂ _&&_ (keeps-x (p .x) (q .x) (a .0) (b .0) .1) (keeps-y (p .y) (q .y) (a .1) (b .1) .1)
+
+  -- and there are as many
+  pub pits-kept : (routes : List Route) → All (All In) routes → pitsOf (map (map moved) routes) ≡ pitsOf routes
+  unfolding pitsOf
+  pits-kept routes a =
+      ap (λ l. length (unique l)) (pits-moved routes a)
+      ∙ unique-map moved In same-kept (pitPoints routes) (pits-all In (λ p q b c. (b .0, c .1)) routes a)
