@@ -11,7 +11,9 @@
  *               0x4E route    run number, meets, corners (2 each); one a run, in job order, each followed by its corners
  *               0x43 corner   x, y (4 each); from the run's first point to its second
  *               0x5A end      total of corners (2)
- */
+ *
+ * Pits are the distinct points at which a route ends or turns, or which one route passes along its row and another along its
+ * column. Plans written before crossings counted carry the number of ends and turns alone. */
 #ifndef TRENCH_H
 #define TRENCH_H
 
