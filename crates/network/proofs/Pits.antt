@@ -29,7 +29,7 @@ use Rattle.network.specs.Route.{Route, piecesFrom, pieces, level, Vertex
 use Rattle.network.specs.Steps.{Dir, hor, ver}
 use Rattle.network.specs.Corners.{samePoint}
 use Rattle.network.specs.Pits.{among, unique, amid, passesRow, passesColumn, crossing, crossings, pitPoints, pitsOf}
-use Rattle.network.specs.Passes.{passes}
+use Rattle.network.specs.Passes.{passes, Crossed}
 use Rattle.network.proofs.Tests.{and-split, and-join, or-split, or-join, same-test, Level, level-true}
 use Rattle.network.proofs.Lists.{any-true, true-any, any-cong, any-append, any-flatMap, any-flatten, all-append, all-flatten, all-flatMap, member-index, index-member}
 use Rattle.network.proofs.Numbers.{Between, rise, fall}
@@ -198,16 +198,6 @@ one-way g run (p ∷ l) v m a b =
     both-ways v p l (run .second) (monotone p l m) r s i j (passes-true hor v r h) (passes-true ver v s k)
 
 -- ---- two routes that cross
-
--- Two routes, by their indexes, cross straight at p: the one passes p along its row, the other along its column.
-pub record Crossed (routes : List Route) (p : Point) : Type 0 where
-  pub one : ℕ
-  pub other : ℕ
-  pub one-in : one < length routes
-  pub other-in : other < length routes
-  pub two : one ≡ other → ⊥
-  pub along-row : any (passes hor p) (pieces (getD routes one [])) ≡ true
-  pub along-column : any (passes ver p) (pieces (getD routes other [])) ≡ true
 
 -- one of the routes is the Manhattan path of a run
 route-of : (g : Grid) (runs : List Run) (routes : List Route) → Routes g runs routes → {route : Route} → Member route routes → (run : Run) × Manhattan g run route

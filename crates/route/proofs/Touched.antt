@@ -20,7 +20,7 @@ use Rattle.network.proofs.Numbers.{order}
 use Rattle.network.proofs.Pits.{Amid, amid-true, true-amid}
 use Rattle.route.specs.Walker.{headingOf}
 use Rattle.route.specs.Marked.{along}
-use Rattle.route.proofs.Turns.{Visit, trail, turns}
+use Rattle.route.proofs.Turns.{Visit, trail, turns, origin, Behind}
 
 -- a visit of p that turns there, ends there, or goes on along d
 abbrev pub touches : Dir → Point → Visit → Bool
@@ -116,18 +116,14 @@ module _ (columns rows : List ℕ) (X Y : Lane) (fx : Fits columns X) (fy : Fits
   abbrev spotAt : ℕ → ℕ → Point
   spotAt i j = record { x = at X i; y = at Y j }
 
-  -- the vertex after (i, j) along d, and one before it on the line by which d leads there
+  -- the vertex after (i, j) along d
   abbrev after : Dir → ℕ → ℕ → Point
   after hor i j = spotAt (suc i) j
   after ver i j = spotAt i (suc j)
 
+  -- one before it on the line by which d leads there
   abbrev before : Dir → ℕ → ℕ → ℕ → Point
-  before hor k i j = spotAt k j
-  before ver k i j = spotAt i k
-
-  abbrev Behind : Dir → ℕ → ℕ → ℕ → Type 0
-  Behind hor k i j = k < i
-  Behind ver k i j = k < j
+  before = origin spotAt
 
   abbrev Room : Dir → ℕ → ℕ → Type 0
   Room hor i j = suc i ≤ extent X

@@ -90,17 +90,17 @@ module _ (f g : ℕ → ℕ → Point) (m : Point → Point) (I J : ℕ) (same :
 
 -- ---- the corners of a drawn route
 
+-- a vertex before (i, j) on the line by which d leads there
+abbrev pub origin : (ℕ → ℕ → Point) → Dir → ℕ → ℕ → ℕ → Point
+origin f hor k i j = f k j
+origin f ver k i j = f i k
+
+-- it is before (i, j)
+abbrev pub Behind : Dir → ℕ → ℕ → ℕ → Type 0
+Behind hor k i j = k < i
+Behind ver k i j = k < j
+
 module _ (g : Grid) (X Y : Lane) (fx : Fits (g .columns) X) (fy : Fits (g .rows) Y) where
-  -- a vertex before (i, j) on the line by which d leads there
-  abbrev origin : Dir → ℕ → ℕ → ℕ → Point
-  origin hor k i j = spot g X Y k j
-  origin ver k i j = spot g X Y i k
-
-  -- it is before (i, j)
-  abbrev Behind : Dir → ℕ → ℕ → ℕ → Type 0
-  Behind hor k i j = k < i
-  Behind ver k i j = k < j
-
   -- a way along one line goes straight on, and one from a row to a column, or from a column to a row, turns
   on-row : (k i j : ℕ) → straightOn (spot g X Y k j) (spot g X Y i j) (spot g X Y (suc i) j) ≡ true
   unfolding straightOn
@@ -134,7 +134,7 @@ module _ (g : Grid) (X Y : Lane) (fx : Fits (g .columns) X) (fy : Fits (g .rows)
       )
 
   -- it does not stand still
-  moved : (d : Dir) (k i j : ℕ) → Behind d k i j → i ≤ extent X → j ≤ extent Y → samePoint (origin d k i j) (spot g X Y i j) ≡ false
+  moved : (d : Dir) (k i j : ℕ) → Behind d k i j → i ≤ extent X → j ≤ extent Y → samePoint (origin (spot g X Y) d k i j) (spot g X Y i j) ≡ false
   unfolding samePoint
   moved hor k i j b p q = rw (ne-eqb _ _ (lane-apart (g .columns) (g .columns-rise) X fx k i b p))
   moved ver k i j b p q =
@@ -145,7 +145,7 @@ module _ (g : Grid) (X Y : Lane) (fx : Fits (g .columns) X) (fy : Fits (g .rows)
 
   -- from a vertex that the way came by along d, the corners are the turns
   turns-from : (s : List Dir) (d : Dir) (k i j : ℕ) → Behind d k i j → i + steps hor s ≤ extent X → j + steps ver s ≤ extent Y
-      → cornersFrom (origin d k i j) (spot g X Y i j) (drawFrom g X Y i j s) ≡ turns (spot g X Y) i j (headingOf d) s
+      → cornersFrom (origin (spot g X Y) d k i j) (spot g X Y i j) (drawFrom g X Y i j s) ≡ turns (spot g X Y) i j (headingOf d) s
   unfolding steps
   turns-from [] d k i j b p q = corner-end _ _ (moved d k i j b (omega arith) (omega arith))
   turns-from (hor ∷ s) hor k i j b p q =
