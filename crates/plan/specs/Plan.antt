@@ -39,9 +39,8 @@ entriesFrom number meets i (c ∷ routes) = record { number = number i; meets = 
 
 -- ---- of a job's routes
 
--- "Trench is the length of their union; saved is the sum of all runs' Manhattan distances less trench. Pits is the number of distinct points that
--- are an end or a turn of some route." The centre is told by its run number, 0 where there is no run (02, C-11). `own` are the plan's own routes, those that
--- its corner records draw.
+-- "Trench is the length of their union; saved is the sum of all runs' Manhattan distances less trench." Pits are those of document 02, C-14. The centre is
+-- told by its run number, 0 where there is no run (02, C-11). `own` are the plan's own routes, those that its corner records draw.
 abbrev pub headOf : (job : ℕ) (numbers : List ℕ) → List Run → (own : List Route) → Head
 headOf job numbers runs own =
     record {

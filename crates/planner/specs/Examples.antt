@@ -1,4 +1,4 @@
--- The surveyed examples of document 01 as one table with what each row says, and a blank job; the job of the listing, and every blank job, with the one plan
+-- The surveyed examples of document 01 as one table with what each row says, a blank job, and one in which cables cross; the job of the listing, and every blank job, with the one plan
 -- that it has. Coordinates are in decimetres, and runs are numbered 1, 2, 3, as written there.
 use mathlib.Core.Path.{_≡_}
 use mathlib.Core.List.{List, [], _∷_, map}
@@ -65,6 +65,8 @@ examples =
     ∷ ((run 0 0 3 0 ∷ run 2 0 5 0 ∷ []) gives figures 5 1)
     -- document 02, C-11: "runs, trench, saved, pits and centre all 0"
     ∷ ([] gives figures-pits 0 0 0)
+    -- document 02, C-14: three routes go straight through (2,1), where none ends or turns; besides there are six ends and turns
+    ∷ ((run 0 0 4 2 ∷ run 0 1 4 1 ∷ run 2 0 2 2 ∷ []) gives figures-pits 8 4 7)
     ∷ []
 
 -- ---- what a row says
