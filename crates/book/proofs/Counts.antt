@@ -9,7 +9,7 @@ use lib.Dec.{eqb}
 use lib.ListN.{length, getD, drop, length-map, drop-of-length-le}
 use borrow.Author.Tests.{eq-eqb, ne-eqb, eqb-true, eqb-false, not-false}
 use Rattle.network.specs.Lists.{All}
-use Rattle.network.proofs.Tests.{neither}
+use Rattle.network.proofs.Tests.{neither, eqb-same}
 use Rattle.refusal.specs.declared.Refusal.{Refusal}
 use Rattle.refusal.specs.declared.Refusal.the-variants.{Miscounted}
 use Rattle.plan.specs.declared.Head.{Head}
@@ -159,14 +159,6 @@ module _ (s : List ℕ) where
   shape-refused shape x e f = sym (ap readingOf (refused-by (recordOf s) (restOf s) shape x e f))
 
 -- ---- the counts by the places
-
--- two tests that hold together
-eqb-same : (a b c d : ℕ) → (a ≡ b → c ≡ d) → (c ≡ d → a ≡ b) → eqb a b ≡ eqb c d
-eqb-same a b c d f g = go (eqb c d) refl
-  where
-    go : (t : Bool) → eqb c d ≡ t → eqb a b ≡ t
-    go true e = eq-eqb a b (g (eqb-true c d e))
-    go false e = ne-eqb a b (λ z. eqb-false c d e (f z))
 
 -- the test of a route by its place and the next: it has no corner, or the record says another number
 abbrev pub byPlaces : (at end said : ℕ) → Bool

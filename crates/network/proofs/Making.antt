@@ -6,6 +6,7 @@ use mathlib.Core.Bool.{Bool, _||_, or-assoc}
 use Prim.Native.Nat.{ℕ}
 use native.Mathlib.Omega.{arith}
 use Rattle.network.specs.Lists.{any, All}
+use Rattle.network.proofs.Lists.{all-append}
 use Rattle.network.specs.Plane.{Point, Run, _to_}
 use Rattle.network.specs.Grid.{Grid, Edge}
 use Rattle.network.specs.Route.{Route, piecesFrom, lastFrom, Vertex, Straight, Manhattan, on, lies}
@@ -60,11 +61,6 @@ rest t u = record { in-x = between-rest (t .in-x) (u .in-x); in-y = between-rest
 abbrev pub endToEnd : Route → Route → Route
 endToEnd p [] = p
 endToEnd p (b ∷ k) = p ++ k
-
--- what holds of the elements of two lists holds of both together
-pub all-append : {A : Type 0} (P : A → Type 0) (l k : List A) → All P l → All P k → All P (l ++ k)
-all-append P [] k f h = h
-all-append P (a ∷ l) k f h = (f .0, all-append P l k (f .1) h)
 
 module _ (b z : Point) (k : List Point) where
   -- straight pieces followed by straight pieces are straight

@@ -5,7 +5,7 @@ use mathlib.Core.Bool.{Bool, true, false, cond, _&&_}
 use mathlib.Core.List.{List, [], _∷_, _++_, map, map-append, flatten, flatMap}
 use Prim.Native.Nat.{ℕ, _≤_, _<_}
 use native.Mathlib.Omega.{arith}
-use borrow.Author.Tests.{ltb-true, lt-ltb, eqb-true, eq-eqb}
+use borrow.Author.Tests.{ltb-true, lt-ltb}
 use lib.Dec.{eqb, ltb}
 use lib.ListN.{length, getD}
 use Rattle.network.specs.Lists.{All}
@@ -14,7 +14,7 @@ use Rattle.network.specs.Grid.{Rising}
 use Rattle.network.specs.Route.{Route, piecesFrom, pieces, level}
 use Rattle.network.specs.Corners.{samePoint}
 use Rattle.network.specs.Pits.{unique, amid, passesRow, passesColumn, crossing, crossings, pitPoints, pitsOf}
-use Rattle.network.proofs.Tests.{same-test}
+use Rattle.network.proofs.Tests.{same-test, eqb-same}
 use Rattle.network.proofs.Lists.{all-flatMap, flatten-map, flatMap-map}
 use Rattle.network.proofs.Rising.{rising-lt, rising-le, one-index}
 use Rattle.network.proofs.Numbers.{order}
@@ -22,7 +22,7 @@ use Rattle.network.proofs.Points.{unique-map}
 use Rattle.network.proofs.Pits.{pits-all}
 
 -- f keeps the order of the numbers in X
-abbrev pub Keeps : (ℕ → Type 0) → (ℕ → ℕ) → Type 0
+abbrev Keeps : (ℕ → Type 0) → (ℕ → ℕ) → Type 0
 Keeps X f = (a b : ℕ) → X a → X b → (ltb (f a) (f b) ≡ ltb a b) × (eqb (f a) (f b) ≡ eqb a b)
 
 -- the numbers of a rising list are in the order of their indexes
@@ -31,9 +31,7 @@ rising-keeps l r a b h k = (
   same-test (ltb (getD l a 0) (getD l b 0)) (ltb a b)
       (λ t. lt-ltb a b (after (order b a) (ltb-true (getD l a 0) (getD l b 0) t)))
       (λ t. lt-ltb (getD l a 0) (getD l b 0) (rising-lt l r a b (ltb-true a b t) k)),
-  same-test (eqb (getD l a 0) (getD l b 0)) (eqb a b)
-      (λ t. eq-eqb a b (one-index l r a b h k (eqb-true (getD l a 0) (getD l b 0) t)))
-      (λ t. eq-eqb (getD l a 0) (getD l b 0) (ap (λ i. getD l i 0) (eqb-true a b t))),
+  eqb-same (getD l a 0) (getD l b 0) a b (one-index l r a b h k) (ap (λ i. getD l i 0)),
 )
   where
     after : (b ≤ a) ⊎ (a < b) → getD l a 0 < getD l b 0 → a < b

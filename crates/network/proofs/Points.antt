@@ -31,7 +31,7 @@ same-turned p q =
 -- ---- one point more
 
 -- among a list and one more
-pub among-last : (p q : Point) (l : List Point) → among p (l ++ q ∷ []) ≡ among p l || samePoint p q
+among-last : (p q : Point) (l : List Point) → among p (l ++ q ∷ []) ≡ among p l || samePoint p q
 among-last p q [] = or-false (samePoint p q)
 among-last p q (r ∷ l) = go (samePoint p r) (among-last p q l)
   where
@@ -56,7 +56,7 @@ new-or-not false true m u e = rw (e refl) (omega arith)
 new-or-not false false m u e = omega arith
 
 -- a point behind the list is new unless it is among its points
-pub unique-last : (l : List Point) (p : Point) → length (unique (l ++ p ∷ [])) ≡ length (unique l) + cond (among p l) 0 1
+unique-last : (l : List Point) (p : Point) → length (unique (l ++ p ∷ [])) ≡ length (unique l) + cond (among p l) 0 1
 unfolding unique
 unique-last [] p = refl
 unique-last (q ∷ l) p =
@@ -92,11 +92,11 @@ unique-append l (p ∷ k) = rw (← append-assoc l (p ∷ []) k) (omega (arith, 
 
 module _ (g : Grid) where
   -- how many vertices of the grid pass a test
-  abbrev pub vertexCount : (Point → Bool) → ℕ
+  abbrev vertexCount : (Point → Bool) → ℕ
   vertexCount t = sumTo (length (g .columns)) (λ i. sumTo (length (g .rows)) (λ j. cond (t (vertex g i j)) 1 0))
 
   -- a vertex stands at one place
-  pub other-vertex : (i j a b : ℕ) → i < length (g .columns) → j < length (g .rows) → a < length (g .columns) → b < length (g .rows) → (i ≡ a → j ≡ b → ⊥)
+  other-vertex : (i j a b : ℕ) → i < length (g .columns) → j < length (g .rows) → a < length (g .columns) → b < length (g .rows) → (i ≡ a → j ≡ b → ⊥)
       → samePoint (vertex g i j) (vertex g a b) ≡ false
   other-vertex i j a b h k m n d =
       is-false (samePoint (vertex g i j) (vertex g a b)) (λ t.

@@ -56,6 +56,10 @@ same-test true b h k = sym (h refl)
 same-test false true h k = k refl
 same-test false false h k = refl
 
+-- two equations that hold together are told alike
+pub eqb-same : (a b c d : ℕ) → (a ≡ b → c ≡ d) → (c ≡ d → a ≡ b) → eqb a b ≡ eqb c d
+eqb-same a b c d f g = same-test (eqb a b) (eqb c d) (λ h. eq-eqb c d (f (eqb-true a b h))) (λ h. eq-eqb a b (g (eqb-true c d h)))
+
 -- two tests that never both hold: the sums of what they select
 pub cond-or : (a b : Bool) (n : ℕ) → (a ≡ true → b ≡ true → ⊥) → cond (a || b) n 0 ≡ cond a n 0 + cond b n 0
 cond-or true true n h = absurd (h refl refl)

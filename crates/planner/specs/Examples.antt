@@ -1,5 +1,5 @@
--- The surveyed examples of document 01 as one table with what each row says, a blank job, and one in which cables cross; the job of the listing, and every blank job, with the one plan
--- that it has. Coordinates are in decimetres, and runs are numbered 1, 2, 3, as written there.
+-- The surveyed examples of document 01 as one table with what each row says, a blank job, and one in which cables cross; the job of the listing, and every
+-- blank job, with the one plan that it has. Coordinates are in decimetres, and runs are numbered 1, 2, 3, as written there.
 use mathlib.Core.Path.{_≡_}
 use mathlib.Core.List.{List, [], _∷_, map}
 use Prim.Native.Nat.{ℕ, suc, _+_, _^_, _≤_, _<_}

@@ -48,7 +48,7 @@ turns-corners r o =
     (below-at 64 (at (rowsOf r) j) (omega (arith, at-fits (numbered .rows) (rowsOf r) (o .rows-fit) j q, length-below 64)))))
 
 -- what is ahead of the walker that has not moved is the whole trail
-pub start-trail : (r : Route) → length (r .steps) ≡ 128 → OnGrid numbered r → visits r (standing r) ≡ trail (vertexAt r) 0 0 2 (stepsOf r)
+start-trail : (r : Route) → length (r .steps) ≡ 128 → OnGrid numbered r → visits r (standing r) ≡ trail (vertexAt r) 0 0 2 (stepsOf r)
 unfolding visits steps
 start-trail r f o = visits-trail (r .count - 0) r (standing r) (on-start r f o) (omega arith)
 

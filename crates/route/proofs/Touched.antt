@@ -1,6 +1,6 @@
 -- What a walk along a route touches is what its corners say: a vertex of the trail is a corner, or else an inner point of the straight piece between two
 -- corners, along the direction in which the route goes on there.
-use mathlib.Core.Path.{_≡_, refl, ap, _∙_}
+use mathlib.Core.Path.{_≡_, refl, sym, ap, _∙_}
 use mathlib.Core.Logic.{_⊎_, inl, inr}
 use mathlib.Core.Bool.{Bool, true, false, _&&_, _||_, and-true, and-false, and-comm, or-assoc}
 use mathlib.Core.List.{List, [], _∷_}
@@ -15,7 +15,7 @@ use Rattle.network.specs.Steps.{Dir, hor, ver, steps, Lane, forth, back, extent
 use Rattle.network.specs.Passes.{passes}
 use Rattle.network.specs.Corners.{samePoint}
 use Rattle.network.specs.Pits.{among, amid, passesRow, passesColumn}
-use Rattle.network.proofs.Tests.{same-test, or-split, or-join, is-false}
+use Rattle.network.proofs.Tests.{same-test, eqb-same, or-split, or-join, is-false}
 use Rattle.network.proofs.Numbers.{order}
 use Rattle.network.proofs.Pits.{Amid, amid-true, true-amid}
 use Rattle.route.specs.Walker.{headingOf}
@@ -108,9 +108,6 @@ one-more false m x y e = rw (e, and-false x)
 nothing-more : (a b x : Bool) → a && false ≡ b && false || x && false
 nothing-more a b x = rw (and-false a, and-false b, and-false x)
 
-eqb-turned : (a b : ℕ) → eqb a b ≡ eqb b a
-eqb-turned a b = same-test (eqb a b) (eqb b a) (λ h. let e = eqb-true a b h in eq-eqb b a (omega arith)) (λ h. let e = eqb-true b a h in eq-eqb a b (omega arith))
-
 module _ (columns rows : List ℕ) (X Y : Lane) (fx : Fits columns X) (fy : Fits rows Y) where
   -- the vertex in column i and row j
   abbrev spotAt : ℕ → ℕ → Point
@@ -140,11 +137,11 @@ module _ (columns rows : List ℕ) (X Y : Lane) (fx : Fits columns X) (fy : Fits
             → passes e p (before d k i j to after d i j) ≡ passes e p (before d k i j to spotAt i j) || samePoint p (spotAt i j) && along e d
         go hor hor k i j b r =
             rw (amid-on (at X k) (at X i) (at X (suc i)) (p .x) (lane-beyond columns X fx k i b r))
-            (one-more (eqb (at Y j) (p .y)) (amid (at X k) (at X i) (p .x)) (eqb (p .x) (at X i)) _ (ap (λ t. eqb (p .x) (at X i) && t) (eqb-turned (p .y) (at Y j))))
+            (one-more (eqb (at Y j) (p .y)) (amid (at X k) (at X i) (p .x)) (eqb (p .x) (at X i)) _ (ap (λ t. eqb (p .x) (at X i) && t) (eqb-same (p .y) (at Y j) (at Y j) (p .y) sym sym)))
         go ver ver k i j b r =
             rw (amid-on (at Y k) (at Y j) (at Y (suc j)) (p .y) (lane-beyond rows Y fy k j b r))
             (one-more (eqb (at X i) (p .x)) (amid (at Y k) (at Y j) (p .y)) (eqb (p .y) (at Y j)) _
-            (and-comm (eqb (p .x) (at X i)) (eqb (p .y) (at Y j)) ∙ ap (λ t. eqb (p .y) (at Y j) && t) (eqb-turned (p .x) (at X i))))
+            (and-comm (eqb (p .x) (at X i)) (eqb (p .y) (at Y j)) ∙ ap (λ t. eqb (p .y) (at Y j) && t) (eqb-same (p .x) (at X i) (at X i) (p .x) sym sym)))
         go hor ver k i j b r =
             rw (amid-none (at X i) (p .x)) (nothing-more (level (at Y k) (at Y (suc j)) (p .y)) (level (at Y k) (at Y j) (p .y)) (samePoint p (spotAt i j)))
         go ver hor k i j b r =

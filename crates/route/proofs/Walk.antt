@@ -133,7 +133,7 @@ on-start r f g =
 -- ---- the vertices ahead
 
 -- the vertices from a walker on: with n steps left, and on its route
-abbrev pub visitsIn : ℕ → Route → Walker → List Visit
+abbrev visitsIn : ℕ → Route → Walker → List Visit
 visitsIn zero r w = record { spot = indexesOf (w .here); corner = true; dir = hor } ∷ []
 visitsIn (suc n) r w = record { spot = indexesOf (w .here); corner = stepped r w .turned; dir = nextOf r w } ∷ visitsIn n r (stepped r w .walker)
 

@@ -9,7 +9,7 @@ use native.Mathlib.Omega.{arith}
 use borrow.Author.Tests.{lt-ltb, le-ltb}
 use lib.ListN.{length, length-append}
 use Rattle.network.specs.Lists.{All}
-use Rattle.network.proofs.Making.{all-append}
+use Rattle.network.proofs.Lists.{all-append}
 use Rattle.text.specs.Numerals.{digits, decimal, valueFrom, NoZeroBefore, Numeral}
 
 -- ---- the two ways in which a numeral is made
