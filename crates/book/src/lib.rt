@@ -8,8 +8,6 @@ use refusal::Refusal;
 ghost use mathlib.Core.Path.{_≡_};
 ghost use Prim.Native.Nat.{_<_};
 ghost use lib.ListN.{getD, drop};
-ghost use mir.Syntax.{w32};
-ghost use mir.Val.{toZ};
 ghost use Rattle.records.specs.Records.{recordOf};
 ghost use Rattle.book.specs.Parse.{refused, parsePlan};
 ghost use Rattle.book.specs.Shape.{saidOf, shapeOf};
@@ -211,16 +209,6 @@ fn place_in(places: &[u32], i: usize) -> usize
     wide(places[i])
 }
 
-// A word, read as two's complement.
-fn signed(word: u32) -> i32
-    ensures { λ r. ⌜ r ≡ toZ w32 word ⌝ }
-{
-    if word < 2147483648 {
-        return word as i32;
-    }
-    -1 - (4294967295 - word) as i32
-}
-
 // Route i of a book, by the places that reading it gave.
 pub fn route_in(book: &[u8], places: &[u32], i: usize) -> Route
     ensures { λ r. ⌜ r ≡ routeBy (now (book .entry)) (now (places .entry)) i ⌝ }
@@ -267,8 +255,8 @@ pub fn corner_in(book: &[u8], places: &[u32], i: usize, j: usize) -> Spot
         return Spot::Nothing;
     };
     Spot::Found {
-        x: signed(x),
-        y: signed(y),
+        x: job::signed_of(x),
+        y: job::signed_of(y),
     }
 }
 

@@ -163,13 +163,13 @@ accepted-iff s number runs h = (
 )
 
 -- a written run has 19 bytes
-runs-length : (runs : List Run) → length (runsBytes runs) ≡ 19 * length runs
+pub runs-length : (runs : List Run) → length (runsBytes runs) ≡ 19 * length runs
 unfolding runsBytes
 runs-length [] = refl
 runs-length (r ∷ runs) = omega (arith, runs-length runs)
 
 -- a written job has 8 bytes, and 19 for each run
-written-length : (number : ℕ) (runs : List Run) → length (bytesOf number runs) ≡ 8 + 19 * length runs
+pub written-length : (number : ℕ) (runs : List Run) → length (bytesOf number runs) ≡ 8 + 19 * length runs
 unfolding bytesOf
 written-length number runs = omega (arith, length-append (runsBytes runs) (0x5A ∷ bytes2 (length runs)), runs-length runs)
 

@@ -4,6 +4,8 @@ ghost use mathlib.Core.Path.{_≡_};
 ghost use mathlib.Core.List.{List, []};
 ghost use Prim.Native.Nat.{ℕ, _+_, _<_, _≤_};
 ghost use lib.ListN.{length, drop};
+ghost use mir.Syntax.{w32};
+ghost use mir.Val.{toZ};
 ghost use Rattle.job.specs.Fields.{word2, word4, biasedOf};
 ghost use Rattle.job.specs.Records.{runBody, decoded, recordOf};
 ghost use Rattle.job.specs.Branches.{NotRun, NotHead};
@@ -78,6 +80,16 @@ pub fn le32(b: &[u8], i: usize) -> u32
     ensures { λ r. ⌜ r ≡ word4 (now (b .entry)) i ⌝ }
 {
     wide(b[i]) + 256 * wide(b[i + 1]) + 65536 * wide(b[i + 2]) + 16777216 * wide(b[i + 3])
+}
+
+// A word, read as two's complement.
+pub fn signed_of(word: u32) -> i32
+    ensures { λ r. ⌜ r ≡ toZ w32 word ⌝ }
+{
+    if word < 2147483648 {
+        return word as i32;
+    }
+    -1 - (4294967295 - word) as i32
 }
 
 // A coordinate's word, read as two's complement, plus 1,000,000: above 2,000,000 where it lies outside its range.

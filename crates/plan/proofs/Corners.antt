@@ -15,9 +15,9 @@ use Rattle.route.specs.Walker.{standing, stepped}
 use Rattle.route.specs.Marked.{indexesOf}
 use Rattle.route.proofs.Walk.{On, left, left-some, on-start, on-step, left-turned, left-straight, left-end}
 use Rattle.route.proofs.Corners.{left-start, corners-few}
-use Rattle.plan.specs.Writers.{Wrote}
+use Rattle.fields.specs.Bytes.{Wrote}
 use Rattle.plan.specs.Records.{cornerRecord}
-use Rattle.plan.proofs.Over.{Rest, rest-all, rest-next, rest-none}
+use Rattle.fields.proofs.Over.{Rest, rest-all, rest-next, rest-none}
 
 -- nine bytes a corner
 pub records-length : (l : List Point) → length (flatMap cornerRecord l) ≡ 9 * length l

@@ -1,5 +1,4 @@
 -- The laws of a plan's bytes, by topic.
-pub mod Over
 pub mod Corners
 pub mod Length
 pub mod Runs

@@ -12,9 +12,10 @@ use Rattle.network.specs.Route.{Route}
 use Rattle.route.specs.declared.Route.{Route as Steps}
 use Rattle.route.specs.Route.{OnGrid, numbered, cornersOf, placed}
 use Rattle.plan.specs.declared.Head.{Head}
-use Rattle.plan.specs.Writers.{Wrote, entryAt, entriesAt, WroteRuns}
+use Rattle.plan.specs.Writers.{entryAt, entriesAt, WroteRuns}
+use Rattle.fields.specs.Bytes.{Wrote}
 use Rattle.plan.specs.Plan.{Entry, entryBytes, bookBytes, totalCorners, entriesFrom}
-use Rattle.plan.proofs.Over.{Rest, rest-all, rest-next, rest-none}
+use Rattle.fields.proofs.Over.{Rest, rest-all, rest-next, rest-none}
 use Rattle.plan.proofs.Length.{entry-length, runs-length, book-length, total-few, entries-length, entries-all, placed-few}
 
 module _ (columns rows numbers meets : List ℕ) where

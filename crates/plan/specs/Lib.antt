@@ -3,5 +3,4 @@ pub mod Records
 pub mod Plan
 pub mod Fits
 -- what the writers' contracts speak of, and no demand
-pub mod Bytes
 pub mod Writers

@@ -1,26 +1,13 @@
--- What the writers' contracts speak of, and no demand: bytes behind others in one buffer, and the entries of the routes that the code holds.
+-- What the writers' contracts speak of, and no demand: the entries of the routes that the code holds.
 use mathlib.Core.Path.{_≡_}
-use mathlib.Core.List.{List, _++_, map, flatMap}
+use mathlib.Core.List.{List, map, flatMap}
 use Prim.Native.Nat.{ℕ, _≤_}
-use lib.ListN.{length, getD, take, drop}
+use lib.ListN.{getD}
 use Rattle.route.specs.declared.Route.{Route as Steps}
 use Rattle.route.specs.Route.{cornersOf, placed}
 use Rattle.plan.specs.declared.Written.{Written}
-use Rattle.plan.specs.Bytes.{over}
+use Rattle.fields.specs.Bytes.{Wrote}
 use Rattle.plan.specs.Plan.{Entry, entryBytes, totalCorners, entriesFrom}
-
--- ---- bytes
-
--- bs written into xs behind its first `at` bytes, which stay
-unfoldable pub behind : ℕ → List ℕ → List ℕ → List ℕ
-behind at bs xs = take at xs ++ over bs (drop at xs)
-
--- what a writer of bs makes of xs, and the length that it says
-pub record Wrote (bs xs ys : List ℕ) (n : ℕ) : Type 0 where
-  pub bytes : ys ≡ over bs xs
-  pub size : n ≡ length bs
-
--- ---- entries
 
 -- the entry of a run whose route is held in line indexes, with tables of the columns and the rows
 abbrev pub entryAt : (columns rows : List ℕ) (number meets : ℕ) → Steps → Entry

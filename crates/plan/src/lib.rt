@@ -3,17 +3,15 @@ use route::Route;
 use route::Vertex;
 use route::Walker;
 ghost use mathlib.Core.Path.{_≡_};
-ghost use mathlib.Core.List.{[], _∷_, map, flatMap};
+ghost use mathlib.Core.List.{map, flatMap};
 ghost use Prim.Native.Nat.{_+_, _*_, _<_, _≤_};
 ghost use lib.ListN.{length, take};
 ghost use Rattle.network.specs.Lists.{All};
-ghost use Rattle.job.specs.Fields.{wordOf};
-ghost use Rattle.job.specs.Written.{bytes2, bytes4};
+ghost use Rattle.fields.specs.Bytes.{Wrote};
 ghost use Rattle.route.specs.Route.{OnGrid, numbered, cornersOf, placed};
 ghost use Rattle.route.specs.Marked.{indexesOf};
-ghost use Rattle.plan.specs.Bytes.{over};
-ghost use Rattle.plan.specs.Writers.{behind, Wrote, entryAt, entriesAt, WroteRuns};
-ghost use Rattle.plan.specs.Records.{headRecord, routeRecord, cornerRecord, endRecord};
+ghost use Rattle.plan.specs.Writers.{entryAt, entriesAt, WroteRuns};
+ghost use Rattle.plan.specs.Records.{headRecord, routeRecord, cornerRecord};
 ghost use Rattle.plan.specs.Plan.{entryBytes, bookBytes};
 
 // The figures of a plan's head. Of runs, pits and centre the lower two bytes are written.
@@ -32,49 +30,17 @@ pub struct Written {
     pub corners: usize,
 }
 
-fn put1(out: &mut [u8], v: u8)
-    requires { ⌜ 1 ≤ length (now out) ⌝ }
-    ensures { λ _. ⌜ now (out .exit) ≡ over (v ∷ []) (now (out .entry)) ⌝ }
-{
-    out[0] = v;
-}
-
-fn put2(out: &mut [u8], at: usize, v: u32)
-    requires { ⌜ at + 2 ≤ length (now out) ⌝ }
-    ensures { λ _. ⌜ now (out .exit) ≡ behind at (bytes2 v) (now (out .entry)) ⌝ }
-{
-    out[at] = (v % 256) as u8;
-    out[at + 1] = (v / 256 % 256) as u8;
-}
-
-fn put4(out: &mut [u8], at: usize, v: u32)
-    requires { ⌜ at + 4 ≤ length (now out) ⌝ }
-    ensures { λ _. ⌜ now (out .exit) ≡ behind at (bytes4 v) (now (out .entry)) ⌝ }
-{
-    out[at] = (v % 256) as u8;
-    out[at + 1] = (v / 256 % 256) as u8;
-    out[at + 2] = (v / 65536 % 256) as u8;
-    out[at + 3] = (v / 16777216 % 256) as u8;
-}
-
-// The word of a coordinate, which is held with 1,000,000 added to it.
-fn word(c: u32) -> u32
-    ensures { λ w. ⌜ w ≡ wordOf c ⌝ }
-{
-    ((c as u64 + 4293967296) % 4294967296) as u32
-}
-
 fn write_head(out: &mut [u8], head: Head) -> usize
     requires { ⌜ 19 ≤ length (now out) ⌝ }
     ensures { λ n. ⌜ Wrote (headRecord head) (now (out .entry)) (now (out .exit)) n ⌝ }
 {
-    put1(out, 0x50);
-    put4(out, 1, head.job);
-    put2(out, 5, head.runs);
-    put4(out, 7, head.trench);
-    put4(out, 11, head.saved);
-    put2(out, 15, head.pits);
-    put2(out, 17, head.centre);
+    fields::put1(out, 0x50);
+    fields::put4(out, 1, head.job);
+    fields::put2(out, 5, head.runs);
+    fields::put4(out, 7, head.trench);
+    fields::put4(out, 11, head.saved);
+    fields::put2(out, 15, head.pits);
+    fields::put2(out, 17, head.centre);
     19
 }
 
@@ -82,20 +48,11 @@ fn write_route(out: &mut [u8], number: u32, meets: u32, corners: u32) -> usize
     requires { ⌜ 7 ≤ length (now out) ⌝ }
     ensures { λ n. ⌜ Wrote (routeRecord number meets corners) (now (out .entry)) (now (out .exit)) n ⌝ }
 {
-    put1(out, 0x4E);
-    put2(out, 1, number);
-    put2(out, 3, meets);
-    put2(out, 5, corners);
+    fields::put1(out, 0x4E);
+    fields::put2(out, 1, number);
+    fields::put2(out, 3, meets);
+    fields::put2(out, 5, corners);
     7
-}
-
-fn write_end(out: &mut [u8], corners: u32) -> usize
-    requires { ⌜ 3 ≤ length (now out) ⌝ }
-    ensures { λ n. ⌜ Wrote (endRecord corners) (now (out .entry)) (now (out .exit)) n ⌝ }
-{
-    put1(out, 0x5A);
-    put2(out, 1, corners);
-    3
 }
 
 // The corner record of a vertex, whose coordinates are those of its column and its row.
@@ -106,9 +63,9 @@ fn write_corner(out: &mut [u8], v: Vertex, columns: &[u32; 64], rows: &[u32; 64]
 {
     let column = v.column;
     let row = v.row;
-    put1(out, 0x43);
-    put4(out, 1, word(columns[column]));
-    put4(out, 5, word(rows[row]));
+    fields::put1(out, 0x43);
+    fields::put4(out, 1, fields::word(columns[column]));
+    fields::put4(out, 5, fields::word(rows[row]));
     9
 }
 
@@ -211,5 +168,5 @@ pub fn write_plan(
         rows,
     );
     let at = start + w.bytes;
-    at + write_end(&mut out[at..], w.corners as u32)
+    at + fields::write_end(&mut out[at..], w.corners as u32)
 }

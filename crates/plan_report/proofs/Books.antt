@@ -9,7 +9,7 @@ use Rattle.job.specs.Written.{Bytes}
 use Rattle.refusal.specs.declared.Refusal.{Refusal}
 use Rattle.plan.specs.declared.Head.{Head}
 use Rattle.plan.specs.Plan.{Entry, bookBytes}
-use Rattle.plan.specs.Writers.{Wrote}
+use Rattle.fields.specs.Bytes.{Wrote}
 use Rattle.book.specs.declared.Answer.the-variants.{Accepted, Refused}
 use Rattle.book.specs.declared.Reading.{Reading}
 use Rattle.book.specs.Parse.{Parsed, accepted, refused, parsePlan}

@@ -12,7 +12,7 @@ ghost use lib.ListN.{length};
 ghost use Rattle.network.specs.Lists.{sum};
 ghost use Rattle.network.specs.Plane.{Run, distance};
 ghost use Rattle.table.specs.Rule.{Beyond};
-ghost use Rattle.plan.specs.Writers.{Wrote};
+ghost use Rattle.fields.specs.Bytes.{Wrote};
 ghost use Rattle.plan.specs.Plan.{headOf};
 ghost use Rattle.planner.specs.Call.{runsOf, numbersOf, planOf};
 ghost use Rattle.planner.specs.Held.{runsIn, Held};

@@ -18,7 +18,7 @@ use Rattle.job.specs.Written.{Bytes, WellFormed}
 use Rattle.job.proofs.First.{first-applies}
 use Rattle.job.proofs.Within.{applies-within}
 use Rattle.job.proofs.Prefix.{parse-prefix}
-use Rattle.plan.specs.Writers.{Wrote}
+use Rattle.fields.specs.Bytes.{Wrote}
 use Rattle.planner.specs.declared.Answer.{Answer}
 use Rattle.planner.specs.declared.Answer.the-variants.{Planned, Refused}
 use Rattle.planner.specs.Call.{runsOf, planOf}

@@ -9,9 +9,9 @@ use native.Mathlib.Omega.{arith}
 use lib.ListN.{length, take, drop, set, getD, length-append, length-take, length-drop, length-set}
 use lib.Seq.{take-all, take-append-le, take-append-add, length-take-le, paste, paste-zero, paste-suc}
 use borrow.Rule.Slice.PartMut.{midOf, putMid}
-use Rattle.plan.specs.Bytes.{over}
-use Rattle.plan.specs.Writers.{Wrote}
-use Rattle.plan.proofs.Over.{wrote-next}
+use Rattle.fields.specs.Bytes.{over}
+use Rattle.fields.specs.Bytes.{Wrote}
+use Rattle.fields.proofs.Over.{wrote-next}
 use Rattle.text.specs.Listed.{Listed}
 
 -- the first n elements of two lists

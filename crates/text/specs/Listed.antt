@@ -3,7 +3,7 @@ use mathlib.Core.Path.{_≡_}
 use mathlib.Core.List.{List}
 use Prim.Native.Nat.{ℕ, _≤_}
 use lib.ListN.{length, take}
-use Rattle.plan.specs.Writers.{Wrote}
+use Rattle.fields.specs.Bytes.{Wrote}
 use Rattle.text.specs.declared.Step.{Step}
 use Rattle.records.specs.Records.{recordOf}
 use Rattle.text.specs.Listing.{recordText, recordSize}

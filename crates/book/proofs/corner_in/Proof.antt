@@ -61,17 +61,17 @@ returns-4 c =
     ∙ ap asSpot (g .ensures ∙ ap (λ (k : ℕ). recordOf (drop (cornerPlace k (a .j)) (now (a .book)))) (c .before .before .before .before .place-in .ensures .0))
     ∙ some-corner (now (a .book)) (now (a .places)) (a .i) (a .j) (c .before .before .before .before .before .if2 .left) (omega (arith, c .before .before .if3 .left, c .before .before .before .place-in2 .ensures .0, c .before .before .before .before .place-in .ensures .0))
 
-signed-requires : tie.Need-signed-requires
-signed-requires c κs = search needs
+signed-of-requires : tie.Need-signed-of-requires
+signed-of-requires c κs = search needs
 
-signed-requires-2 : tie.Need-signed-requires-2
-signed-requires-2 c κs = search needs
+signed-of-requires-2 : tie.Need-signed-of-requires-2
+signed-of-requires-2 c κs = search needs
 
 returns-5 : tie.Need-returns-5
 returns-5 c =
     let a = c .before .before .before .before .before .before .before .before .before .before .before .before .before .args in
     let g = c .before .before .before .before .before .record-at in
-    (λ i. spot.Found ((toZ-ofZ w32 (c .before .signed .result) (record { sfits = c .before .signed .ok }) ∙ c .before .signed .ensures) i) ((toZ-ofZ w32 (c .signed2 .result) (record { sfits = c .signed2 .ok }) ∙ c .signed2 .ensures) i))
+    (λ i. spot.Found ((toZ-ofZ w32 (c .before .signed-of .result) (record { sfits = c .before .signed-of .ok }) ∙ c .before .signed-of .ensures) i) ((toZ-ofZ w32 (c .signed-of2 .result) (record { sfits = c .signed-of2 .ok }) ∙ c .signed-of2 .ensures) i))
     ∙ ap asSpot (sym (c .before .before .before .found .given .1) ∙ g .ensures ∙ ap (λ (k : ℕ). recordOf (drop (cornerPlace k (a .j)) (now (a .book)))) (c .before .before .before .before .before .before .before .before .place-in .ensures .0))
     ∙ some-corner (now (a .book)) (now (a .places)) (a .i) (a .j) (c .before .before .before .before .before .before .before .before .before .if2 .left) (omega (arith, c .before .before .before .before .before .before .if3 .left, c .before .before .before .before .before .before .before .place-in2 .ensures .0, c .before .before .before .before .before .before .before .before .place-in .ensures .0))
 
@@ -91,6 +91,6 @@ corner-in-spec =
     record-at-requires
     enum-known-found
     returns-4
-    signed-requires
-    signed-requires-2
+    signed-of-requires
+    signed-of-requires-2
     returns-5)

@@ -4,7 +4,7 @@ use mathlib.Core.List.{[], _∷_}
 use Rattle.job.specs.Written.{bytes4}
 use Rattle.job.specs.Fields.{wordOf}
 use lib.ListN.{getD}
-use Rattle.plan.proofs.Over.{next}
+use Rattle.fields.proofs.Over.{next}
 use borrow.Author.Needs.{needs}
 use Rattle.plan.proofs.write_corner.Statement.{statement}
 use Rattle.plan.proofs.write_corner.Tie as tie

@@ -3,7 +3,7 @@ use mathlib.Core.Path.{refl}
 use mathlib.Core.List.{List, [], _∷_, _++_}
 use Prim.Native.Nat.{ℕ}
 use Rattle.job.specs.Written.{bytes2, bytes4}
-use Rattle.plan.proofs.Over.{next}
+use Rattle.fields.proofs.Over.{next}
 use borrow.Author.Needs.{needs}
 use Rattle.plan.proofs.write_head.Statement.{statement}
 use Rattle.plan.proofs.write_head.Tie as tie

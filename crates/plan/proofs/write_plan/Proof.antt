@@ -5,7 +5,7 @@ use lib.ListN.{take, length-take}
 use Rattle.plan.specs.Records.{headRecord, endRecord}
 use Rattle.plan.specs.Plan.{entryBytes, totalCorners, bookBytes}
 use Rattle.plan.specs.Writers.{entriesAt}
-use Rattle.plan.proofs.Over.{wrote-next}
+use Rattle.fields.proofs.Over.{wrote-next}
 use Rattle.plan.proofs.Length.{book-room}
 use Rattle.plan.proofs.Runs.{written-most}
 use borrow.Author.Needs.{needs}

@@ -6,7 +6,7 @@ use lib.ListN.{length, length-map}
 use Rattle.route.specs.Route.{cornersOf, placed}
 use Rattle.route.proofs.Corners.{corners-few}
 use Rattle.plan.specs.Records.{routeRecord, cornerRecord}
-use Rattle.plan.proofs.Over.{wrote-next}
+use Rattle.fields.proofs.Over.{wrote-next}
 use borrow.Author.Needs.{needs}
 use Rattle.plan.proofs.write_run.Statement.{statement}
 use Rattle.plan.proofs.write_run.Tie as tie

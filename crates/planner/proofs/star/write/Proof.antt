@@ -9,7 +9,7 @@ use Rattle.network.specs.Graph.{below, degree}
 use Rattle.grid.specs.Tables.{table, padded}
 use Rattle.intersection.specs.Star.{joinedIn}
 use Rattle.job.specs.declared.Job.{Job}
-use Rattle.plan.specs.Writers.{Wrote}
+use Rattle.fields.specs.Bytes.{Wrote}
 use Rattle.plan.specs.Plan.{meetsOf}
 use native.Mathlib.Omega.{arith}
 use Rattle.planner.specs.Call.{runsOf}

@@ -3,7 +3,8 @@ use borrow.Author.Needs.{needs}
 use mathlib.Core.Path.{subst}
 use denote.Ref.{now}
 use native.Mathlib.Omega.{arith}
-use Rattle.plan.specs.Writers.{entriesAt, Wrote}
+use Rattle.plan.specs.Writers.{entriesAt}
+use Rattle.fields.specs.Bytes.{Wrote}
 use Rattle.planner.proofs.Blank.{blank-bytes, blank-length}
 use Rattle.planner.proofs.star.write_blank.Statement.{statement}
 use Rattle.planner.proofs.star.write_blank.Tie as tie

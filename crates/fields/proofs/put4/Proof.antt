@@ -1,12 +1,12 @@
--- `plan::put4` meets its contract: its stores are those of `sets`.
+-- `fields::put4` meets its contract: its stores are those of `sets`.
 use native.Mathlib.Numerals.{add-one, add-two, add-three}
 use native.Mathlib.Omega.{arith}
 use lib.ListN.{length-set}
 use Rattle.job.specs.Written.{bytes4}
-use Rattle.plan.proofs.Over.{stores-behind}
+use Rattle.fields.proofs.Over.{stores-behind}
 use borrow.Author.Needs.{needs}
-use Rattle.plan.proofs.put4.Statement.{statement}
-use Rattle.plan.proofs.put4.Tie as tie
+use Rattle.fields.proofs.put4.Statement.{statement}
+use Rattle.fields.proofs.put4.Tie as tie
 
 cast-out : tie.Need-cast-out
 cast-out c = search needs

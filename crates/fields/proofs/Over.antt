@@ -7,8 +7,7 @@ use native.Mathlib.Omega.{arith}
 use lib.ListN.{length, take, drop, take-append-drop, length-append, length-take, length-drop, drop-of-length-le}
 use lib.Seq.{sets, sets-eq, take-append-seam, drop-append-seam, take-append-add, drop-append-add, drop-drop, take-all, length-take-le}
 use borrow.Rule.Slice.PartMut.{midOf, postOf, putMid}
-use Rattle.plan.specs.Bytes.{over}
-use Rattle.plan.specs.Writers.{behind, Wrote}
+use Rattle.fields.specs.Bytes.{over, behind, Wrote}
 
 -- behind no bytes is over the front
 pub behind-none : (bs xs : List ℕ) → behind 0 bs xs ≡ over bs xs

@@ -1,12 +1,12 @@
--- `plan::put2` meets its contract: its stores are those of `sets`.
+-- `fields::put2` meets its contract: its stores are those of `sets`.
 use native.Mathlib.Numerals.{add-one}
 use native.Mathlib.Omega.{arith}
 use lib.ListN.{length-set}
 use Rattle.job.specs.Written.{bytes2}
-use Rattle.plan.proofs.Over.{stores-behind}
+use Rattle.fields.proofs.Over.{stores-behind}
 use borrow.Author.Needs.{needs}
-use Rattle.plan.proofs.put2.Statement.{statement}
-use Rattle.plan.proofs.put2.Tie as tie
+use Rattle.fields.proofs.put2.Statement.{statement}
+use Rattle.fields.proofs.put2.Tie as tie
 
 cast-out : tie.Need-cast-out
 cast-out c = search needs

@@ -1,4 +1,4 @@
--- `book::signed` meets its contract: from 2^31 on, a word is read as minus 1, less what it lacks to 2^32 - 1.
+-- `job::signed_of` meets its contract: from 2^31 on, a word is read as minus 1, less what it lacks to 2^32 - 1.
 use mathlib.Core.Path.{_≡_, refl, sym, ap, _∙_, subst}
 use Prim.Native.Nat.{ℕ, zero, suc, _+_, _-_, _<_}
 use native.Mathlib.Omega.{arith}
@@ -7,9 +7,9 @@ use mir.Syntax.{w32}
 use mir.Val.{SFits, toZ, ofZ}
 use mir.ValLaws.{toZ-ofZ}
 use borrow.Author.Needs.{needs}
 use Rattle.job.proofs.Signed.{low, high}
-use Rattle.book.proofs.signed.Statement.{statement}
-use Rattle.book.proofs.signed.Tie as tie
+use Rattle.job.proofs.signed_of.Statement.{statement}
+use Rattle.job.proofs.signed_of.Tie as tie
 
 minus-one : (n : ℕ) → n < 2147483648 → negsuc 0 -ℤ toZ w32 n ≡ negsuc n
 minus-one n h = ap (λ z. negsuc 0 -ℤ z) (low n h) ∙ go n
@@ -47,5 +47,5 @@ returns-2 c =
     let e : n ≡ 4294967296 - suc w = omega arith in
     ap (λ (z : ℤ). toZ w32 (ofZ w32 z)) (minus-one n h) ∙ toZ-ofZ w32 (negsuc n) (minus-fits n h) ∙ ap negsuc e ∙ sym (high w (c .if1 .left))
 
-pub signed-spec : {M : Type 1} → statement M
-signed-spec = tie.close (tie.spec cast-result returns sub-result cast-result-2 sub-result-2 returns-2)
+pub signed-of-spec : {M : Type 1} → statement M
+signed-of-spec = tie.close (tie.spec cast-result returns sub-result cast-result-2 sub-result-2 returns-2)

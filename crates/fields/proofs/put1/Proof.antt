@@ -1,10 +1,10 @@
--- `plan::put1` meets its contract: one store at the front.
+-- `fields::put1` meets its contract: one store at the front.
 use mathlib.Core.Path.{_∙_}
 use mathlib.Core.List.{[], _∷_}
-use Rattle.plan.proofs.Over.{stores-behind, behind-none}
+use Rattle.fields.proofs.Over.{stores-behind, behind-none}
 use borrow.Author.Needs.{needs}
-use Rattle.plan.proofs.put1.Statement.{statement}
-use Rattle.plan.proofs.put1.Tie as tie
+use Rattle.fields.proofs.put1.Statement.{statement}
+use Rattle.fields.proofs.put1.Tie as tie
 
 slice-write-out : tie.Need-slice-write-out
 slice-write-out c = search needs

@@ -1,0 +1,2 @@
+-- The laws of bytes in a buffer.
+pub mod Over

@@ -1,0 +1,2 @@
+-- What the writers' contracts speak of, and no demand.
+pub mod Bytes
