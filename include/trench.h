@@ -1,4 +1,5 @@
-/* The trench planner for C, and the reader of its plans. Link target/staticlib/libtrench.a, which `rt staticlib trench` writes.
+/* The trench planner for C, the writer of its jobs and the reader of its plans. Link target/staticlib/libtrench.a, which
+ * `rt staticlib trench` writes.
  *
  * Lengths and coordinates are in decimetres. Fields of both books are little-endian and not aligned; coordinates are 32-bit
  * two's complement. Each record is one byte of kind, then a body:
@@ -13,7 +14,10 @@
  *               0x5A end      total of corners (2)
  *
  * Pits are the distinct points at which a route ends or turns, or which one route passes along its row and another along its
- * column. Plans written before crossings counted carry the number of ends and turns alone. */
+ * column. Plans written before crossings counted carry the number of ends and turns alone.
+ *
+ * A function that can refuse gives a number from 0 up, or minus the refusal number; its twin, of the same name with _place, is
+ * lent the same and gives the refusal's place, 0 where there is no refusal. */
 #ifndef TRENCH_H
 #define TRENCH_H
 
@@ -30,7 +34,7 @@ extern "C" {
 /* No plan is longer than this, in bytes; nor is any plan book that is read. */
 #define TRENCH_LONGEST_PLAN 36822
 
-/* No job that is accepted is longer than this, in bytes. */
+/* No job that is accepted is longer than this, in bytes; so it is room for every job that trench_job writes. */
 #define TRENCH_LONGEST_JOB 616
 
 /* The most runs of a job, and routes of a plan. */
@@ -38,6 +42,9 @@ extern "C" {
 
 /* The most corners of a route. */
 #define TRENCH_MOST_CORNERS 127
+
+/* The numbers of a run in the list that trench_job is lent. */
+#define TRENCH_RUN 5
 
 /* The words that trench_figures, trench_places, trench_route and trench_corner write. */
 #define TRENCH_FIGURES 6
@@ -49,23 +56,27 @@ extern "C" {
  * reader needs far less. This figure is measured by the tests and not proved. */
 #define TRENCH_STACK 131072
 
-/* The refusals, of jobs by trench_plan and of plan books by trench_read. Where several apply, the answer is the first:
+/* The refusals, of jobs by trench_plan, of lists of runs by trench_job and of plan books by trench_read. Where several apply, the
+ * answer is the first:
  *
  *   job         2; then the records front to back, and within a record 4, 3, 5, 9, 7, 8, 6; last 11. No call answers -10: a
  *               job without runs is planned.
+ *   list        3; 9; then the runs front to back, and within a run 7, 8; last 2.
  *   plan book   the records front to back, and within a record 12, 8, 13; 14 only where nothing else is wrong, in the book's
  *               order: the head's runs, each route's corners, the end's total.
  *
- * The place of a plan book's refusal is that of the kind byte of the record at fault, from 0; with 12 it is the book's length
- * where the bytes end behind a record that is no end, and the byte after the end record where there is one. */
+ * The place of a job's and of a plan book's refusal is that of the kind byte of the record at fault, from 0. With 3 and 12 it is
+ * the length where the bytes end behind a record that is no end; with 5 and 12 it is the byte after the end record where there is
+ * one; with 2 and 11 it is 0. The place of a list's refusal is the index of the run at fault, from 0; with 3 it is the list's
+ * length, with 9 it is 32, with 2 it is 0. */
 enum trench_refusal {
     TRENCH_SHORT_WORK = 1,     /* work words under 16,384: never answered here, since the function has its own */
-    TRENCH_SHORT_BUFFER = 2,   /* plan buffer under 40,960 bytes */
-    TRENCH_CUT = 3,            /* the bytes end inside a record, or before an end record */
+    TRENCH_SHORT_BUFFER = 2,   /* plan buffer under 40,960 bytes; job buffer shorter than 8 bytes plus 19 a run */
+    TRENCH_CUT = 3,            /* the bytes end inside a record, or before an end record; a list of no whole number of runs */
     TRENCH_UNKNOWN_KIND = 4,   /* unknown kind of record */
     TRENCH_OUT_OF_PLACE = 5,   /* first record no head, a second head, or a byte after the end record */
     TRENCH_WRONG_COUNT = 6,    /* the end's count differs from the runs read */
-    TRENCH_RUN_NUMBER = 7,     /* run number 0, above 9,999 or not above the one before */
+    TRENCH_RUN_NUMBER = 7,     /* run number 0 or below, above 9,999 or not above the one before */
     TRENCH_COORDINATE = 8,     /* coordinate of a run's point, or of a plan's corner, outside -1,000,000 to 1,000,000 */
     TRENCH_TOO_MANY_RUNS = 9,  /* a 33rd run */
     TRENCH_NO_STAR = 11,       /* well formed, but no star: no run meets every other while no two others meet */
@@ -95,6 +106,35 @@ enum trench_refusal {
  * always returns. It may be called from several threads at once, each with its own plan buffer.
  */
 int32_t trench_plan(const uint8_t *job, size_t job_len, uint8_t *out, size_t out_len);
+
+/* The place of the refusal that trench_plan tells for this job and a plan buffer of `out_len` bytes; 0 where it tells none. It is
+ * lent the job alone, under the conditions of trench_plan, and plans nothing. */
+size_t trench_plan_place(const uint8_t *job, size_t job_len, size_t out_len);
+
+/* ---- jobs from runs ---- */
+
+/* Writes the job book of a job number and of runs that are lent as a list of numbers, five a run: run number, first x, first y,
+ * second x, second y.
+ *
+ * Gives the book's length in bytes, 8 plus 19 a run, or minus the refusal number, below 0.
+ *
+ * Accepted: the job book fills the first bytes of `out`, as many as the answer says; no later byte is changed. Read back, it has
+ * the job number and the runs that were lent, so trench_plan refuses it with 11 or not at all, given a plan buffer that is long
+ * enough; and every job that trench_plan takes is what this function writes for its number and runs. An empty list is a job
+ * without runs, of 8 bytes.
+ * Refused: no byte of `out` is changed. The numbers of `runs` are never changed.
+ *
+ *     const int32_t runs[] = {1, 0, 0, 40, 30, 2, 0, 10, 40, 10};
+ *     uint8_t job[TRENCH_LONGEST_JOB];
+ *     int32_t length = trench_job(7, runs, sizeof runs / sizeof *runs, job, sizeof job);
+ *
+ * What the caller owes: `runs` points to `runs_len` numbers, aligned as the machine wants them, and `out` to `out_len` bytes;
+ * neither is null, even where its length is 0; the two do not overlap; and `out` is used by nobody else during the call. There is
+ * no other condition: any numbers may be given, and any length of either. For the rest it is as with trench_plan. */
+int32_t trench_job(uint32_t number, const int32_t *runs, size_t runs_len, uint8_t *out, size_t out_len);
+
+/* The place of the refusal that trench_job tells for the same arguments; 0 where it tells none. Nothing is written. */
+size_t trench_job_place(uint32_t number, const int32_t *runs, size_t runs_len, const uint8_t *out, size_t out_len);
 
 /* ---- stored plans ----
  *

@@ -10,11 +10,12 @@ use lib.ListN.{length}
 use Rattle.job.specs.declared.Run.{Run as Read}
 use Rattle.refusal.specs.declared.Refusal.{Refusal}
 use Rattle.refusal.specs.declared.Refusal.the-variants.{ShortWork, ShortPlan, NoStar}
-use Rattle.job.specs.Parse.{accepted, refused, parse}
+use Rattle.job.specs.Parse.{Parsed, accepted, refused, parse}
+use Rattle.job.specs.Reading.{placeSaid}
 use Rattle.intersection.specs.declared.Star.the-variants as star
 use Rattle.intersection.specs.Star.{starOf}
 use Rattle.planner.specs.declared.Answer.the-variants.{Refused}
-use Rattle.planner.specs.Verdict.{centresOf, some, judged, verdict}
+use Rattle.planner.specs.Verdict.{centresOf, some, isStar, judged, verdict}
 use Rattle.planner.specs.Call.{runsOf, Said, gives, refuses, said, Plans}
 use Rattle.planner.specs.Outcome.{Outcome}
 
@@ -36,6 +37,16 @@ module _ (job out : List ℕ) (words : ℕ) where
 pub enough : (job : List ℕ) (w o : ℕ) → 16384 ≤ w → 40960 ≤ o → verdict job w o ≡ judged (parse job)
 unfolding verdict
 enough job w o h k = rw (le-ltb w 16384 h, le-ltb o 40960 k)
+
+-- a job without a star, and one with, has no place to tell: the place is the reader's
+pub judged-place : (p : Parsed) → placeSaid (judged p) ≡ placeSaid p
+unfolding judged
+judged-place (refused x) = refl
+judged-place (accepted number runs) = go (isStar (runsOf runs))
+  where
+    go : (b : Bool) → placeSaid (cond b (accepted number runs) (refused NoStar)) ≡ 0
+    go true = refl
+    go false = refl
 
 -- a job that cannot be read
 pub read-refused : (job out : List ℕ) (x : Refusal) → parse job ≡ refused x → Outcome (judged (parse job)) out (said (Refused x)) out

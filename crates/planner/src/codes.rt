@@ -1,4 +1,4 @@
-// What the map screen is told: "the plan's length, or minus the refusal number" (document 01, What a call says and leaves).
+// What C is told: "the plan's length, or minus the refusal number" (document 01, What a call says and leaves), and so the length of a job book.
 use refusal::Refusal;
 ghost use mathlib.Core.Path.{_≡_};
 ghost use Prim.Native.Nat.{_≤_};
@@ -12,7 +12,7 @@ pub fn code_of(refusal: Refusal) -> i32
     -(refusal::number(refusal) as i32)
 }
 
-// A plan's length.
+// The length of a plan or of a job book.
 pub fn length_code(n: usize) -> i32
     requires { ⌜ n ≤ 36822 ⌝ }
     ensures { λ r. ⌜ r ≡ pos n ⌝ }

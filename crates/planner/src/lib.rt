@@ -8,9 +8,11 @@ mod star;
 use intersection::Star;
 use job::Job;
 use refusal::Refusal;
+ghost use mathlib.Core.Path.{_≡_};
 ghost use Prim.Native.Nat.{_≤_};
 ghost use lib.ListN.{length};
 ghost use Rattle.job.specs.Parse.{accepted, parse};
+ghost use Rattle.job.specs.Reading.{placeSaid};
 ghost use Rattle.table.specs.Rule.{Beyond};
 ghost use Rattle.planner.specs.Verdict.{judged, verdict};
 ghost use Rattle.planner.specs.Call.{said, Plans, Words};
@@ -163,5 +165,20 @@ pub fn plan_for_map(job: &[u8], out: &mut [u8]) -> i32
     match answer {
         Answer::Planned(length) => codes::length_code(length),
         Answer::Refused(refusal) => codes::code_of(refusal),
+    }
+}
+
+// The place of the refusal that planning for the map screen tells, with a plan buffer of so many bytes; 0 where it tells none.
+pub fn place_for_map(job: &[u8], room: usize) -> usize
+    ensures { λ r. ⌜ r ≡ placeSaid (verdict (now (job .entry)) 16384 room) ⌝ }
+{
+    if room < PLAN_BYTES {
+        return 0;
+    }
+    let reading = job::read(job);
+    let answer = reading.answer;
+    match answer {
+        job::Answer::Accepted => 0,
+        job::Answer::Refused(refusal) => refusal::place(refusal),
     }
 }

@@ -1,16 +1,20 @@
-// The functions for C: planning a job for the map screen, and reading a plan book. include/trench.h says what each is lent and leaves.
+// The functions for C: planning a job for the map screen, writing a job book from its runs, and reading a plan book. include/trench.h says what each is lent and
+// leaves.
 use book::Answer;
 use book::Figures;
 use book::Route;
 use book::Spot;
+use job_writer::Outcome;
 ghost use mathlib.Core.Path.{_≡_};
 ghost use lib.ListN.{length};
+ghost use Rattle.job.specs.Reading.{placeSaid};
+ghost use Rattle.job_writer.specs.Call.{callOf};
 ghost use Rattle.planner.specs.Verdict.{verdict};
 ghost use Rattle.planner.specs.Outcome.{MapOutcome};
 ghost use Rattle.book.specs.Parse.{parsePlan};
 ghost use Rattle.book.specs.Reading.{figuresOf, placesOf, routeBy, cornerBy};
 ghost use Rattle.trench.specs.Words.{Filled};
-ghost use Rattle.trench.specs.Told.{codeOf, placeOf, figureWords, routeWords, spotWords};
+ghost use Rattle.trench.specs.Told.{codeOf, placeOf, outcomeCode, outcomePlace, figureWords, routeWords, spotWords};
 
 // Plans a job: the plan's length, or minus the refusal number.
 #[no_mangle]
@@ -18,6 +22,39 @@ pub extern "C" fn trench_plan(job: &[u8], out: &mut [u8]) -> i32
     ensures { λ r. ⌜ MapOutcome (verdict (now (job .entry)) 16384 (length (now (out .entry)))) (now (out .entry)) r (now (out .exit)) ⌝ }
 {
     planner::plan_for_map(job, out)
+}
+
+// The place of the refusal of a job, with a plan buffer of so many bytes; 0 where it has none.
+#[no_mangle]
+pub extern "C" fn trench_plan_place(job: &[u8], room: usize) -> usize
+    ensures { λ r. ⌜ r ≡ placeSaid (verdict (now (job .entry)) 16384 room) ⌝ }
+{
+    planner::place_for_map(job, room)
+}
+
+// Writes the job book of a number and a list of runs: its length, or minus the refusal number.
+#[no_mangle]
+pub extern "C" fn trench_job(number: u32, runs: &[i32], out: &mut [u8]) -> i32
+    ensures { λ r. ⌜ (r ≡ outcomeCode (callOf number (now (runs .entry)) (now (out .entry)) .says))
+        × (now (out .exit) ≡ callOf number (now (runs .entry)) (now (out .entry)) .out) ⌝ }
+{
+    let outcome = job_writer::write(number, runs, out);
+    match outcome {
+        Outcome::Written(length) => planner::codes::length_code(length),
+        Outcome::Refused(refusal) => planner::codes::code_of(refusal),
+    }
+}
+
+// The place of the refusal of a list of runs, with this buffer; 0 where it has none.
+#[no_mangle]
+pub extern "C" fn trench_job_place(number: u32, runs: &[i32], out: &[u8]) -> usize
+    ensures { λ r. ⌜ r ≡ outcomePlace (callOf number (now (runs .entry)) (now (out .entry)) .says) ⌝ }
+{
+    let answer = job_writer::check(runs, out.len());
+    match answer {
+        job::Answer::Accepted => 0,
+        job::Answer::Refused(refusal) => refusal::place(refusal),
+    }
 }
 
 // Reads a plan book: its number of routes, or minus the refusal number.
