@@ -16,8 +16,8 @@
  * Pits are the distinct points at which a route ends or turns, or which one route passes along its row and another along its
  * column. Plans written before crossings counted carry the number of ends and turns alone.
  *
- * A function that can refuse gives a number from 0 up, or minus the refusal number; its twin, of the same name with _place, is
- * lent the same and gives the refusal's place, 0 where there is no refusal. */
+ * A function that can refuse gives a number from 0 up, or minus the refusal number; its twin, of the same name with _place, gives
+ * the place of that refusal, 0 where there is none. */
 #ifndef TRENCH_H
 #define TRENCH_H
 
@@ -53,7 +53,7 @@ extern "C" {
 #define TRENCH_CORNER 2
 
 /* A call of any function needs no more stack than this, in bytes; most of it are the planner's 16,384 work words, and the
- * reader needs far less. This figure is measured by the tests and not proved. */
+ * reader and the writer need far less. This figure is measured by the tests and not proved. */
 #define TRENCH_STACK 131072
 
 /* The refusals, of jobs by trench_plan, of lists of runs by trench_job and of plan books by trench_read. Where several apply, the
@@ -120,7 +120,7 @@ size_t trench_plan_place(const uint8_t *job, size_t job_len, size_t out_len);
  *
  * Accepted: the job book fills the first bytes of `out`, as many as the answer says; no later byte is changed. Read back, it has
  * the job number and the runs that were lent, so trench_plan refuses it with 11 or not at all, given a plan buffer that is long
- * enough; and every job that trench_plan takes is what this function writes for its number and runs. An empty list is a job
+ * enough; and every well-formed job, star or not, is what this function writes for its number and runs. An empty list is a job
  * without runs, of 8 bytes.
  * Refused: no byte of `out` is changed. The numbers of `runs` are never changed.
  *

@@ -1,11 +1,15 @@
-/* The map screen in little: reads a job book, has it planned, and draws the plan as SVG; or draws a stored plan book.
+/* The map screen in little: reads a job book, has it planned, and draws the plan as SVG; or draws a stored plan book; or makes a
+ * job book of points that were clicked, and draws its plan.
  *
- *   map JOB > plan.svg            a file, or - for standard input
- *   map --plan BOOK > plan.svg    the same
+ *   map JOB > plan.svg                                    a file, or - for standard input
+ *   map --plan BOOK > plan.svg                            the same
+ *   map --clicks NUMBER BOOK [X,Y X,Y].. > plan.svg       the job of this number goes to the file BOOK; without points on the
+ *                                                         command line they are read from standard input
  *
- * Exit status 0: drawn. 1: the job or the plan book was refused, and the refusal is told on standard error. 2: nothing could be
- * read or written.
+ * Exit status 0: drawn. 1: the job, its runs or the plan book was refused, and the refusal is told on standard error. 2:
+ * something could not be read or written.
  */
+#include <ctype.h>
 #include <inttypes.h>
 #include <stdbool.h>
 #include <stdio.h>
@@ -83,46 +87,153 @@ static void refuse(const char *name, int32_t number, size_t place)
 
 /* ---- the job ---- */
 
-static int32_t answer(const uint8_t *job, size_t length)
+/* Has a job planned. Gives the plan's length. */
+static size_t plan_job(const char *name, const uint8_t *job, size_t length, uint8_t *book, size_t room)
 {
-    static uint8_t out[TRENCH_PLAN_ROOM];
-    return trench_plan(job, length, out, sizeof out);
-}
-
-/* The place of a job's refusal. The answer holds only its number, but answers for shorter jobs tell the place: records are judged
- * front to back, so a job cut before its fault shows is refused as cut; and a record starts at p exactly if a byte of no kind,
- * put there, is refused as an unknown kind. The fault is in the last record that starts so, or it is the first byte behind a
- * whole job. */
-static size_t place_of(int32_t number, const uint8_t *job, size_t length)
-{
-    uint8_t shorter[JOB_ROOM + 1] = { 0 };
-    size_t place = 0;
-    if (number == TRENCH_NO_STAR || number == TRENCH_SHORT_BUFFER)
-        return 0;
-    for (size_t p = 0; p <= length; p++) {
-        int32_t cut = answer(shorter, p);
-        if (cut > 0 || cut == -TRENCH_NO_STAR)
-            return p;
-        if (cut != -TRENCH_CUT)
-            return place;
-        shorter[p] = 0;
-        if (answer(shorter, p + 1) == -TRENCH_UNKNOWN_KIND)
-            place = p;
-        if (p < length)
-            shorter[p] = job[p];
-    }
-    return place;
-}
-
-/* Reads a job and has it planned. Gives the plan's length. */
-static size_t plan_job(const char *name, uint8_t *book, size_t room)
-{
-    uint8_t job[JOB_ROOM];
-    size_t length = read_file(name, job, sizeof job);
     int32_t planned = trench_plan(job, length, book, room);
     if (planned <= 0)
-        refuse(name, -planned, place_of(-planned, job, length));
+        refuse(name, -planned, trench_plan_place(job, length, room));
     return (size_t)planned;
+}
+
+/* Reads a job and has it planned. */
+static size_t plan_file(const char *name, uint8_t *book, size_t room)
+{
+    uint8_t job[JOB_ROOM];
+    return plan_job(name, job, read_file(name, job, sizeof job), book, room);
+}
+
+/* ---- the job of clicked points ---- */
+
+/* Runs as trench_job is lent them, in memory that grows. */
+struct runs {
+    int32_t *list;
+    size_t length, room;
+};
+
+static void grow(struct runs *runs)
+{
+    runs->room = 2 * runs->room + TRENCH_MOST_RUNS * TRENCH_RUN;
+    runs->list = realloc(runs->list, runs->room * sizeof *runs->list);
+    if (!runs->list)
+        fail("the points", "are more than this machine has memory for");
+}
+
+static void add_number(struct runs *runs, int32_t number)
+{
+    if (runs->length == runs->room)
+        grow(runs);
+    runs->list[runs->length++] = number;
+}
+
+/* Takes a whole number off the front of a text: digits, with a minus before them or none. Whether it is there and in range. */
+static bool take_number(const char **text, int64_t low, int64_t high, int64_t *number)
+{
+    const char *at = *text;
+    bool minus = *at == '-';
+    at += minus;
+    if (*at < '0' || *at > '9')
+        return false;
+    for (*number = 0; *at >= '0' && *at <= '9' && *number <= UINT32_MAX; at++)
+        *number = 10 * *number + (*at - '0');
+    if (minus)
+        *number = -*number;
+    *text = at;
+    return low <= *number && *number <= high;
+}
+
+static uint32_t read_job_number(const char *text)
+{
+    const char *at = text;
+    int64_t number = 0;
+    if (!take_number(&at, 0, UINT32_MAX, &number) || *at)
+        fail(text, "is no job number: one from 0 to 4294967295 is wanted");
+    return (uint32_t)number;
+}
+
+/* Adds a point, and before the first of a run the run's number: 1, 2, 3 in their order. */
+static void add_point(struct runs *runs, const char *text)
+{
+    const char *at = text;
+    int64_t x = 0, y = 0;
+    if (!take_number(&at, INT32_MIN, INT32_MAX, &x) || *at++ != ',' || !take_number(&at, INT32_MIN, INT32_MAX, &y) || *at)
+        fail(text, "is no point: two whole numbers of 32 bits with a comma between are wanted, as in 40,-30");
+    if (runs->length % TRENCH_RUN == 0)
+        add_number(runs, (int32_t)(runs->length / TRENCH_RUN + 1));
+    add_number(runs, (int32_t)x);
+    add_number(runs, (int32_t)y);
+}
+
+/* The next word of standard input, cut where there is no room; a byte 0 in it becomes a question mark. Whether there is one. */
+static bool next_word(char *word, size_t room)
+{
+    size_t length = 0;
+    int c = getchar();
+    while (isspace(c))
+        c = getchar();
+    for (; c != EOF && !isspace(c); c = getchar())
+        if (length + 1 < room)
+            word[length++] = c ? (char)c : '?';
+    word[length] = '\0';
+    return length > 0;
+}
+
+/* Adds the points of standard input. A word that has no room is longer than any point without needless zeros. */
+static void add_typed_points(struct runs *runs)
+{
+    char word[64];
+    while (next_word(word, sizeof word)) {
+        if (strlen(word) == sizeof word - 1)
+            fail(word, "is too long for a point");
+        add_point(runs, word);
+    }
+    if (ferror(stdin))
+        fail("standard input", "cannot be read");
+}
+
+static void refuse_last_point(const struct runs *runs)
+{
+    char text[24];
+    const int32_t *last = runs->list + runs->length - 2;
+    snprintf(text, sizeof text, "%" PRId32 ",%" PRId32, last[0], last[1]);
+    fail(text, "is a point without its second");
+}
+
+/* Tells the refusal of a list. Where its place is a run's index, the run is named too: that of index 0 is run 1. */
+static void refuse_runs(const char *name, int32_t number, size_t place)
+{
+    if (number != TRENCH_RUN_NUMBER && number != TRENCH_COORDINATE && number != TRENCH_TOO_MANY_RUNS)
+        refuse(name, number, place);
+    fprintf(stderr, "map: %s: refused %" PRId32 " at %zu: run %zu: %s\n", name, number, place, place + 1, words(number));
+    exit(REFUSED);
+}
+
+static void write_file(const char *name, const uint8_t *bytes, size_t length)
+{
+    FILE *file = fopen(name, "wb");
+    if (!file || fwrite(bytes, 1, length, file) != length || fclose(file) != 0)
+        fail(name, "cannot be written");
+}
+
+/* Makes the job of this number and these points, or those of standard input where there are none, stores it under a name, and has
+ * it planned. What runs a job may have is for trench_job to say. */
+static size_t plan_clicks(const char *number, const char *name, char **points, uint8_t *book, size_t room)
+{
+    static struct runs runs;
+    uint8_t job[TRENCH_LONGEST_JOB];
+    uint32_t job_number = read_job_number(number);
+    grow(&runs); /* a list of no runs has an address too */
+    if (!*points)
+        add_typed_points(&runs);
+    for (; *points; points++)
+        add_point(&runs, *points);
+    if (runs.length % TRENCH_RUN)
+        refuse_last_point(&runs);
+    int32_t length = trench_job(job_number, runs.list, runs.length, job, sizeof job);
+    if (length < 0)
+        refuse_runs(name, -length, trench_job_place(job_number, runs.list, runs.length, job, sizeof job));
+    write_file(name, job, (size_t)length);
+    return plan_job(name, job, (size_t)length, book, room);
 }
 
 /* ---- the plan ---- */
@@ -659,14 +770,18 @@ int main(int argc, char **argv)
 {
     static uint8_t book[TRENCH_PLAN_ROOM];
     static struct plan plan;
-    bool stored = argc == 3 && strcmp(argv[1], "--plan") == 0;
-    if (argc != 2 && !stored) {
+    bool stored = argc == 3 && strcmp(argv[1], "--plan") == 0, clicked = argc > 3 && strcmp(argv[1], "--clicks") == 0;
+    if (argc != 2 && !stored && !clicked) {
         fprintf(stderr, "usage: map JOB > plan.svg            a job book, or - for standard input\n"
-                        "       map --plan BOOK > plan.svg    a stored plan book, or - for standard input\n");
+                        "       map --plan BOOK > plan.svg    a stored plan book, or - for standard input\n"
+                        "       map --clicks NUMBER BOOK [X,Y X,Y].. > plan.svg\n"
+                        "                                     a job of these runs, or of points on standard input; it goes to BOOK\n");
         return FAILED;
     }
-    const char *name = argv[argc - 1];
-    size_t length = stored ? read_file(name, book, sizeof book) : plan_job(name, book, sizeof book);
+    const char *name = argv[clicked ? 3 : argc - 1];
+    size_t length = clicked ? plan_clicks(argv[2], name, argv + 4, book, sizeof book)
+                  : stored  ? read_file(name, book, sizeof book)
+                            : plan_file(name, book, sizeof book);
     read_plan(name, book, length, &plan);
     draw(&plan);
     if (fflush(stdout) != 0 || ferror(stdout))

@@ -10,7 +10,7 @@ use crate::planner;
 use crate::random::Random;
 use crate::refusal::Refusal;
 
-/// What a plan book was made to be.
+/// What a plan book, or a list of runs, was made to be.
 #[derive(Clone, Copy, Debug, PartialEq, Eq)]
 pub enum Made {
     /// Accepted.

@@ -1,5 +1,5 @@
-//! The comparison of a planner, called as C calls `trench_plan`, with the independent reading: many jobs of all kinds, each
-//! with every size of plan buffer that matters.
+//! The comparison of a planner, called as C calls `trench_plan` and `trench_plan_place`, with the independent reading: many
+//! jobs of all kinds, each with every size of plan buffer that matters. Well-formed jobs are written again besides.
 
 use crate::book::{hex, job_bytes};
 use crate::damage;
@@ -9,8 +9,10 @@ use crate::judge::Judge;
 use crate::line;
 use crate::listing;
 use crate::random::Random;
+use crate::read_back::Answered;
 use crate::refusal::{self, PLAN_ROOM, Refusal};
 use crate::report::{Report, Subject};
+use crate::write_job::{Writer, faults_of_rewriting};
 
 /// The lengths of plan buffers that every job is tried with. In 22 bytes a blank job's plan has room, and they are too few.
 pub const SIZES: [usize; 6] = [0, 1, 22, PLAN_ROOM - 1, PLAN_ROOM, PLAN_ROOM + 1];
@@ -27,6 +29,13 @@ pub struct Called {
 pub trait Caller {
     /// Calls the planner with these job bytes and a plan buffer of this content, which it then holds as the call left it.
     fn call(&mut self, job: &[u8], out: &mut [u8]) -> Called;
+
+    /// Asks with these job bytes for the place of the refusal with a plan buffer of this length; none where the planner has no
+    /// such function.
+    fn place(&mut self, job: &[u8], out_len: usize) -> Option<Answered>;
+
+    /// The writer of job books that stands beside the planner, if there is one.
+    fn writer(&mut self) -> Option<&mut dyn Writer>;
 }
 
 /// A job book to try, with what was made to be wrong with it where something was.
@@ -128,10 +137,20 @@ pub fn try_case(caller: &mut dyn Caller, case: &Case, random: &mut Random, repor
             }
             _ => found.extend(faults_of_refusal(2, called.answer, &entry, &out)),
         }
+        if let Some(answered) = caller.place(&case.bytes, size) {
+            report.calls += 1;
+            let refused = due.as_ref().err().filter(|_| size >= PLAN_ROOM);
+            found.extend(faults_of_place(answered, refused.map_or(0, |refused| refused.place)));
+        }
         faults.extend(found.iter().map(|fault| format!("buffer of {size}: {fault}")));
     }
+    if let (Ok(job), Some(writer)) = (refusal::read(&case.bytes), caller.writer()) {
+        report.calls += 1;
+        report.written_again += 1;
+        faults.extend(faults_of_rewriting(writer, &job, &case.bytes, random));
+    }
     report.books += 1;
-    report.longest_plan = report.longest_plan.max(plan.len());
+    report.longest = report.longest.max(plan.len());
     report.faults.extend(faults.iter().map(|fault| format!("{} ({}): {fault}", case.what, hex(&case.bytes))));
 }
 
@@ -179,8 +198,14 @@ fn faults_of_refusal(number: i32, answer: i32, entry: &[u8], out: &[u8]) -> Vec<
     faults
 }
 
-/// Holds what a listing program printed for one case to what is due, and adds what was found. Unlike the C function, the
-/// listing tells the place of a refusal.
+/// What is wrong with the place that is told where this one is due.
+fn faults_of_place(answered: Answered, place: usize) -> Vec<String> {
+    let told = answered.answer;
+    let wrong = (told != place as i64).then(|| format!("the place is {told} and should be {place}"));
+    wrong.into_iter().chain(answered.strayed).collect()
+}
+
+/// Holds what a listing program printed for one case to what is due, with the place of a refusal, and adds what was found.
 pub fn try_listing(case: &Case, printed: &str, report: &mut Report) {
     let mut faults = Vec::new();
     match due(case, report, &mut faults) {
@@ -190,7 +215,7 @@ pub fn try_listing(case: &Case, printed: &str, report: &mut Report) {
         Err(_) => {}
         Ok(judge) => match listing::read_plan(printed) {
             Ok(plan) => {
-                report.longest_plan = report.longest_plan.max(plan.bytes().len());
+                report.longest = report.longest.max(plan.bytes().len());
                 faults.extend(judge.faults(&plan.bytes()));
             }
             Err(fault) => faults.push(format!("no listing of a plan, but a plan is due: {fault}")),

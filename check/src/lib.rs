@@ -1,6 +1,6 @@
 //! A second reading of documents 000 (geometry), 01 (bytes, limits, order) and 02 (later requests), which shares no code with
-//! the proved planner: an independent planner, a reader and a judge of plans, generators of jobs and of plan books, and the
-//! comparison of a planner and a reader with all of these.
+//! the proved planner: an independent planner, a reader and a judge of plans, a writer of jobs, generators of jobs, of plan books
+//! and of lists of runs, and the comparison of a planner, a reader and a writer with all of these.
 
 #![forbid(unsafe_code)]
 
@@ -17,8 +17,11 @@ pub mod graph;
 pub mod grid;
 pub mod in_out;
 pub mod job;
+pub mod job_list;
 pub mod judge;
 pub mod line;
+pub mod list_cases;
+pub mod list_line;
 pub mod listing;
 pub mod pits;
 pub mod plan_book;
@@ -28,3 +31,4 @@ pub mod read_back;
 pub mod refusal;
 pub mod report;
 pub mod text;
+pub mod write_job;

@@ -333,7 +333,7 @@ fn counted(case: &BookCase, reading: &Reading, report: &mut Report) {
     match &reading.book {
         Ok(book) => {
             *report.accepted.entry(book.routes.len()).or_default() += 1;
-            report.longest_plan = report.longest_plan.max(case.bytes.len());
+            report.longest = report.longest.max(case.bytes.len());
         }
         Err(refusal) => *report.refused.entry(refusal.number).or_default() += 1,
     }

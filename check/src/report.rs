@@ -4,6 +4,10 @@ use std::collections::BTreeMap;
 use std::fmt;
 
 use crate::job::MOST_RUNS;
+use crate::list_cases;
+
+/// Of each kind of list, fewer than so many are too few.
+const FEW: usize = 50;
 
 /// What was tried.
 #[derive(Clone, Copy, Debug, PartialEq, Eq)]
@@ -12,13 +16,15 @@ pub enum Subject {
     Jobs,
     /// The reader, with plan books.
     Plans,
+    /// The writer of job books, with lists of runs.
+    Lists,
 }
 
 /// What was tried, and what was wrong.
 pub struct Report {
     /// Which books these are.
     pub subject: Subject,
-    /// The number of books.
+    /// The number of books, or of lists.
     pub books: usize,
     /// The number of calls.
     pub calls: usize,
@@ -26,8 +32,12 @@ pub struct Report {
     pub accepted: BTreeMap<usize, usize>,
     /// The number of refused books by refusal number.
     pub refused: BTreeMap<i32, usize>,
-    /// The number of bytes of the longest plan.
-    pub longest_plan: usize,
+    /// The number of lists by what they are called.
+    pub kinds: BTreeMap<String, usize>,
+    /// The number of job books that were written again.
+    pub written_again: usize,
+    /// The number of bytes of the longest plan, or of the longest job book that was written.
+    pub longest: usize,
     /// What was wrong, in words, with the book that shows it.
     pub faults: Vec<String>,
 }
@@ -41,7 +51,9 @@ impl Report {
             calls: 0,
             accepted: BTreeMap::new(),
             refused: BTreeMap::new(),
-            longest_plan: 0,
+            kinds: BTreeMap::new(),
+            written_again: 0,
+            longest: 0,
             faults: Vec::new(),
         }
     }
@@ -51,22 +63,31 @@ impl Report {
         assert_eq!(self.subject, other.subject);
         self.books += other.books;
         self.calls += other.calls;
-        self.longest_plan = self.longest_plan.max(other.longest_plan);
+        self.written_again += other.written_again;
+        self.longest = self.longest.max(other.longest);
         other.accepted.into_iter().for_each(|(runs, count)| *self.accepted.entry(runs).or_default() += count);
         other.refused.into_iter().for_each(|(number, count)| *self.refused.entry(number).or_default() += count);
+        other.kinds.into_iter().for_each(|(kind, count)| *self.kinds.entry(kind).or_default() += count);
         self.faults.extend(other.faults);
     }
 
-    /// What of documents 01 and 02 no book of this report tried: a refusal, or a number of runs or routes from 0 to 32. A report
-    /// of many books should have nothing here.
+    /// What of documents 01 and 02 no book of this report tried: a refusal, or a number of runs or routes from 0 to 32; and the
+    /// kinds of lists of which too few were tried. A report of many books should have nothing here.
     pub fn untried(&self) -> Vec<String> {
         let (numbers, what, runs): (&[i32], _, _) = match self.subject {
             Subject::Jobs => (&[3, 4, 5, 6, 7, 8, 9, 11], "a star", "runs"),
             Subject::Plans => (&[8, 12, 13, 14], "a plan", "routes"),
+            Subject::Lists => (&[2, 3, 7, 8, 9], "a list", "runs"),
         };
         let refusals = numbers.iter().filter(|number| !self.refused.contains_key(number));
         let counts = (0..=MOST_RUNS).filter(|count| !self.accepted.contains_key(count));
-        refusals.map(|n| format!("refusal {n}")).chain(counts.map(|n| format!("{what} of {n} {runs}"))).collect()
+        let kinds = list_cases::labels()
+            .filter(|&kind| self.subject == Subject::Lists && self.kinds.get(kind).copied().unwrap_or(0) < FEW);
+        refusals
+            .map(|n| format!("refusal {n}"))
+            .chain(counts.map(|n| format!("{what} of {n} {runs}")))
+            .chain(kinds.map(|kind| format!("enough lists {kind}")))
+            .collect()
     }
 }
 
@@ -75,15 +96,19 @@ impl fmt::Display for Report {
         let accepted: usize = self.accepted.values().sum();
         let (blank, full) = [0, MOST_RUNS].map(|count| self.accepted.get(&count).copied().unwrap_or(0)).into();
         let refused: Vec<String> = self.refused.iter().map(|(number, count)| format!("{number}: {count}")).collect();
-        let (books, runs) = match self.subject {
-            Subject::Jobs => ("jobs", "runs"),
-            Subject::Plans => ("plan books", "routes"),
+        let (books, runs, longest) = match self.subject {
+            Subject::Jobs => ("jobs", "runs", "plan"),
+            Subject::Plans => ("plan books", "routes", "plan"),
+            Subject::Lists => ("lists", "runs", "job book"),
         };
         write!(
             out,
-            "{} {books}, {} calls: {accepted} accepted ({blank} blank, {full} of 32 {runs}, longest plan {} bytes)",
-            self.books, self.calls, self.longest_plan
+            "{} {books}, {} calls: {accepted} accepted ({blank} blank, {full} of 32 {runs}, longest {longest} {} bytes)",
+            self.books, self.calls, self.longest
         )?;
+        if self.written_again > 0 {
+            write!(out, "; {} job books written again", self.written_again)?;
+        }
         write!(out, "; refused by number: {}; {} faults", refused.join(", "), self.faults.len())
     }
 }

@@ -4,11 +4,14 @@ use std::collections::BTreeSet;
 
 use trench_check::compare::{Called, Caller, SIZES, case, try_cases, try_listing};
 use trench_check::job::Point;
+use trench_check::job_list::book_of;
 use trench_check::listing;
 use trench_check::plan_book::PlanBook;
 use trench_check::planner;
+use trench_check::read_back::Answered;
 use trench_check::refusal::{self, PLAN_ROOM};
 use trench_check::report::{Report, Subject};
+use trench_check::write_job::Writer;
 
 /// A planner in Rust, called with exactly the lent slices.
 struct Plain<F>(F);
@@ -16,6 +19,47 @@ struct Plain<F>(F);
 impl<F: FnMut(&[u8], &mut [u8]) -> i32> Caller for Plain<F> {
     fn call(&mut self, job: &[u8], out: &mut [u8]) -> Called {
         Called { answer: (self.0)(job, out), strayed: None }
+    }
+
+    fn place(&mut self, _: &[u8], _: usize) -> Option<Answered> {
+        None
+    }
+
+    fn writer(&mut self) -> Option<&mut dyn Writer> {
+        None
+    }
+}
+
+/// A planner with what stands beside it: these places, and a writer that writes this.
+struct Beside<P, W> {
+    planner: fn(&[u8], &mut [u8]) -> i32,
+    place: P,
+    book: W,
+}
+
+impl<P: FnMut(&[u8], usize) -> usize, W: FnMut(u32, &[i32]) -> Vec<u8>> Caller for Beside<P, W> {
+    fn call(&mut self, job: &[u8], out: &mut [u8]) -> Called {
+        Called { answer: (self.planner)(job, out), strayed: None }
+    }
+
+    fn place(&mut self, job: &[u8], out_len: usize) -> Option<Answered> {
+        Some(Answered { answer: (self.place)(job, out_len) as i64, strayed: None })
+    }
+
+    fn writer(&mut self) -> Option<&mut dyn Writer> {
+        Some(self)
+    }
+}
+
+impl<P, W: FnMut(u32, &[i32]) -> Vec<u8>> Writer for Beside<P, W> {
+    fn write(&mut self, number: u32, list: &[i32], out: &mut [u8]) -> Called {
+        let book = (self.book)(number, list);
+        out[..book.len()].copy_from_slice(&book);
+        Called { answer: book.len() as i32, strayed: None }
+    }
+
+    fn place(&mut self, _: u32, _: &[i32], _: &mut [u8]) -> Answered {
+        unreachable!("a job that is written again is not refused")
     }
 }
 
@@ -122,6 +166,76 @@ fn a_wrong_order_of_refusals_is_noticed() {
         answer => answer,
     };
     assert_noticed(seven_for_eight, "the answer is -7 and should be -8");
+}
+
+/// The place of the independent reading.
+fn right_place(job: &[u8], out_len: usize) -> usize {
+    if out_len < PLAN_ROOM {
+        return 0;
+    }
+    refusal::verdict(job).err().map_or(0, |refused| refused.place)
+}
+
+fn right_book(number: u32, list: &[i32]) -> Vec<u8> {
+    book_of(number, list, usize::MAX).expect("a well-formed list")
+}
+
+/// Wrong places or books are noticed, whatever the planner does: here it refuses all.
+fn assert_noticed_beside(
+    place: impl FnMut(&[u8], usize) -> usize,
+    book: impl FnMut(u32, &[i32]) -> Vec<u8>,
+    words: &str,
+) {
+    let faults = try_cases(&mut Beside { planner: |_, _| -2, place, book }, 11, 0, JOBS, 1).faults;
+    assert!(faults.iter().any(|fault| fault.contains(words)), "`{words}` is in none of {} faults", faults.len());
+}
+
+#[test]
+fn right_places_and_books_pass() {
+    let mut beside = Beside { planner: right, place: right_place, book: right_book };
+    let report = try_cases(&mut beside, 11, 0, JOBS, 1);
+    assert_eq!(report.faults, Vec::<String>::new());
+    assert_eq!(report.calls, 2 * SIZES.len() * JOBS as usize + report.written_again);
+    let well_formed = report.accepted.values().sum::<usize>() + report.refused[&11];
+    assert_eq!(report.written_again, well_formed, "every well-formed job is written again");
+}
+
+#[test]
+fn wrong_places_are_noticed() {
+    assert_noticed_beside(|job, room| right_place(job, room) + 1, right_book, "the place is 1 and should be 0");
+    assert_noticed_beside(|job, _| right_place(job, PLAN_ROOM), right_book, "buffer of 40959: the place is ");
+    assert_noticed_beside(|_, _| 0, right_book, "buffer of 40960: the place is 0 and should be ");
+    assert_noticed_beside(|_, _| 0, right_book, "buffer of 40961: the place is 0 and should be ");
+    let length_for_none = |job: &[u8], room: usize| match refusal::verdict(job) {
+        Ok(_) if room >= PLAN_ROOM => job.len(),
+        _ => right_place(job, room),
+    };
+    assert_noticed_beside(length_for_none, right_book, "the place is 27 and should be 0");
+    let record_for_after_end = |job: &[u8], room: usize| match refusal::verdict(job) {
+        Err(refused) if refused.number == 5 && room >= PLAN_ROOM => refused.place.saturating_sub(3),
+        _ => right_place(job, room),
+    };
+    assert_noticed_beside(record_for_after_end, right_book, "byte after the end");
+}
+
+#[test]
+fn wrong_books_of_jobs_are_noticed() {
+    let changed = |change: fn(&mut Vec<u8>)| {
+        move |number: u32, list: &[i32]| {
+            let mut book = right_book(number, list);
+            change(&mut book);
+            book
+        }
+    };
+    assert_noticed_beside(right_place, changed(|book| book[1] ^= 1), "written again: 4806");
+    assert_noticed_beside(right_place, changed(|book| book[4] ^= 0x80), "is written and should be");
+    assert_noticed_beside(
+        right_place,
+        changed(|book| book.truncate(5)),
+        "written again: the answer is 5 and should be",
+    );
+    let no_blank = |number: u32, list: &[i32]| if list.is_empty() { vec![] } else { right_book(number, list) };
+    assert_noticed_beside(right_place, no_blank, "written again: the answer is 0 and should be 8");
 }
 
 /// The listing by the independent planner.

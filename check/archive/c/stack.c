@@ -1,8 +1,9 @@
 /* How much stack the archive's functions need: runs them on a stack of its own that was painted before, and looks how far it was
  * used.
  *
- *   stack JOB..            prints the greatest need in bytes, of planning the jobs and of reading plan books
+ *   stack JOB..            prints the greatest need in bytes, of planning the jobs, of writing jobs and of reading plan books
  *   stack --read JOB..     the same of reading alone: the jobs' plans, the longest book, and the jobs' bytes, which are no plan
+ *   stack --write JOB..    the same of writing jobs from lists, and of the places of refusals
  *
  * Exit status 1 where the need is above TRENCH_STACK, 2 where something went wrong.
  */
@@ -19,8 +20,8 @@ enum { ROOM = 1 << 21, PAINT = 0x5C };
 
 struct call {
     uint8_t job[4096], book[TRENCH_PLAN_ROOM];
-    size_t length, book_length;
-    int32_t answer, corner[TRENCH_CORNER];
+    size_t length, book_length, numbers;
+    int32_t answer, corner[TRENCH_CORNER], list[(TRENCH_MOST_RUNS + 1) * TRENCH_RUN];
     uint32_t figures[TRENCH_FIGURES], places[TRENCH_PLACES], route[TRENCH_ROUTE];
     size_t place, corners;
 };
@@ -34,6 +35,22 @@ static void *planned(void *given)
 {
     struct call *call = given;
     call->answer = trench_plan(call->job, call->length, call->book, sizeof call->book);
+    return given;
+}
+
+static void *placed(void *given)
+{
+    struct call *call = given;
+    call->place = trench_plan_place(call->job, call->length, sizeof call->book);
+    return given;
+}
+
+/* Writes the job of a list and asks for the place of its refusal. */
+static void *written(void *given)
+{
+    struct call *call = given;
+    call->answer = trench_job(7, call->list, call->numbers, call->book, sizeof call->book);
+    call->place = trench_job_place(7, call->list, call->numbers, call->book, sizeof call->book);
     return given;
 }
 
@@ -120,17 +137,33 @@ static size_t reading(struct call *call, size_t length, bool accepted, size_t co
     return bytes;
 }
 
+/* The need of writing the job of so many runs, which has to be accepted, or refused with its place. */
+static size_t writing(struct call *call, size_t runs)
+{
+    call->numbers = runs * TRENCH_RUN;
+    for (size_t i = 0; i < call->numbers; i++)
+        call->list[i] = (int32_t)(i / TRENCH_RUN + 1);
+    size_t bytes = need(written, call);
+    if (runs > TRENCH_MOST_RUNS ? call->place != TRENCH_MOST_RUNS : call->answer != (int32_t)(8 + 19 * runs))
+        exit(2);
+    return bytes;
+}
+
 int main(int argc, char **argv)
 {
     static struct call call;
-    size_t to_plan = 0, to_read = 0;
-    bool read_only = argc > 1 && strcmp(argv[1], "--read") == 0;
-    for (int i = read_only ? 2 : 1; i < argc; i++) {
+    size_t to_plan = 0, to_read = 0, to_write = 0;
+    bool read_only = argc > 1 && strcmp(argv[1], "--read") == 0, write_only = argc > 1 && strcmp(argv[1], "--write") == 0;
+    static const size_t runs[] = { 0, 1, TRENCH_MOST_RUNS, TRENCH_MOST_RUNS + 1 };
+    for (size_t i = 0; i < sizeof runs / sizeof *runs; i++)
+        to_write = most(to_write, writing(&call, runs[i]));
+    for (int i = read_only || write_only ? 2 : 1; i < argc; i++) {
         FILE *file = fopen(argv[i], "rb");
         if (!file)
             return 2;
         call.length = fread(call.job, 1, sizeof call.job, file);
         fclose(file);
+        to_write = most(to_write, need(placed, &call));
         to_plan = most(to_plan, need(planned, &call));
         if (call.answer > 0)
             to_read = most(to_read, reading(&call, (size_t)call.answer, true, 0));
@@ -138,7 +171,7 @@ int main(int argc, char **argv)
         to_read = most(to_read, reading(&call, call.length, false, 0));
     }
     to_read = most(to_read, reading(&call, longest_book(call.book), true, TRENCH_MOST_RUNS * TRENCH_MOST_CORNERS));
-    size_t bytes = read_only ? to_read : most(to_plan, to_read);
+    size_t bytes = read_only ? to_read : write_only ? to_write : most(most(to_plan, to_read), to_write);
     printf("%zu\n", bytes);
     return bytes <= TRENCH_STACK ? 0 : 1;
 }

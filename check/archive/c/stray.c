@@ -1,5 +1,5 @@
-/* Functions with the interfaces of trench_plan and trench_corner that do what those must not: the tests see that each is noticed.
- * The planners answer -4. */
+/* Functions with the interfaces of trench_plan, trench_job, trench_job_place and trench_corner that do what those must not: the
+ * tests see that each is noticed. The planners answer -4. */
 #include <stddef.h>
 #include <stdint.h>
 
@@ -61,5 +61,36 @@ size_t stray_corner(const uint8_t *book, size_t book_len, const uint32_t *places
     case 8: *(volatile uint8_t *)(uintptr_t)(book - 1) ^= 1; break;
     default: break;
     }
+    return 0;
+}
+
+/* Does the deed of this number to what is before or behind its parts, or to the list, which it may only read. Answers -4. */
+int32_t stray_job(uint32_t number, const int32_t *runs, size_t runs_len, uint8_t *out, size_t out_len);
+
+int32_t stray_job(uint32_t number, const int32_t *runs, size_t runs_len, uint8_t *out, size_t out_len)
+{
+    switch (number) {
+    case 0: *(volatile uint8_t *)(out - 1) ^= 1; break;
+    case 1: *(volatile uint8_t *)(out + out_len) ^= 1; break;
+    case 2: *(volatile int32_t *)(uintptr_t)runs ^= 1; break;
+    case 3: (void)*(const volatile int32_t *)(runs - 1); break;
+    case 4: (void)*(const volatile int32_t *)(runs + runs_len); break;
+    case 5: *(volatile int32_t *)(uintptr_t)(runs - 1) ^= 1; break;
+    case 6: *(volatile int32_t *)(uintptr_t)(runs + runs_len) ^= 1; break;
+    default: break;
+    }
+    return -4;
+}
+
+/* The same for a buffer that it may only read; with number 7 it writes into that. Answers 0. */
+size_t stray_job_place(uint32_t number, const int32_t *runs, size_t runs_len, const uint8_t *out, size_t out_len);
+
+size_t stray_job_place(uint32_t number, const int32_t *runs, size_t runs_len, const uint8_t *out, size_t out_len)
+{
+    uint8_t *buffer = (uint8_t *)(uintptr_t)out;
+    if (number == 7)
+        *(volatile uint8_t *)buffer = *buffer;
+    else
+        stray_job(number, runs, runs_len, buffer, out_len);
     return 0;
 }

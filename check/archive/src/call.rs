@@ -7,6 +7,7 @@ use std::ffi::c_void;
 
 use trench_check::compare::{Called, Caller};
 use trench_check::read_back::{Answered, Asker, Question};
+use trench_check::write_job::Writer;
 
 type Plan = unsafe extern "C" fn(*const u8, usize, *mut u8, usize) -> i32;
 
@@ -23,6 +24,11 @@ unsafe extern "C" {
     fn stray_write_job(job: *const u8, job_len: usize, out: *mut u8, out_len: usize) -> i32;
     fn stray_read_before(job: *const u8, job_len: usize, out: *mut u8, out_len: usize) -> i32;
     fn stray_read_behind(job: *const u8, job_len: usize, out: *mut u8, out_len: usize) -> i32;
+    fn trench_plan_place(job: *const u8, job_len: usize, out_len: usize) -> usize;
+    fn trench_job(number: u32, runs: *const i32, runs_len: usize, out: *mut u8, out_len: usize) -> i32;
+    fn trench_job_place(number: u32, runs: *const i32, runs_len: usize, out: *const u8, out_len: usize) -> usize;
+    fn stray_job(number: u32, runs: *const i32, runs_len: usize, out: *mut u8, out_len: usize) -> i32;
+    fn stray_job_place(number: u32, runs: *const i32, runs_len: usize, out: *const u8, out_len: usize) -> usize;
     fn trench_read(book: *const u8, book_len: usize) -> i32;
     fn trench_read_place(book: *const u8, book_len: usize) -> usize;
     fn trench_figures(book: *const u8, book_len: usize, figures: *mut u32, figures_len: usize) -> usize;
@@ -114,6 +120,25 @@ pub fn plan(function: Function, job: &[u8], out: &mut [u8]) -> i32 {
     unsafe { function.pointer()(job.as_ptr(), job.len(), out.as_mut_ptr(), out.len()) }
 }
 
+/// The archive's place of the refusal of a job, with a plan buffer of this length.
+pub fn plan_place(job: &[u8], out_len: usize) -> usize {
+    // SAFETY: the function reads `job.len()` bytes of job, which is alive.
+    unsafe { trench_plan_place(job.as_ptr(), job.len(), out_len) }
+}
+
+/// Has the archive write a job book from a list: the book's length, or minus the refusal number.
+pub fn write_job(number: u32, list: &[i32], out: &mut [u8]) -> i32 {
+    // SAFETY: the function reads the numbers of the list and reads and writes `out.len()` bytes of out; both slices are alive
+    // and do not overlap, since one of them is borrowed mutably.
+    unsafe { trench_job(number, list.as_ptr(), list.len(), out.as_mut_ptr(), out.len()) }
+}
+
+/// The archive's place of the refusal of the same.
+pub fn write_job_place(number: u32, list: &[i32], out: &[u8]) -> usize {
+    // SAFETY: the function reads the numbers of the list and `out.len()` bytes of out, and both slices are alive.
+    unsafe { trench_job_place(number, list.as_ptr(), list.len(), out.as_ptr(), out.len()) }
+}
+
 /// Bytes of a record that the program `table_rounds` reads.
 const FRAME: usize = 1546;
 
@@ -159,6 +184,7 @@ pub fn processor_time(whose: Whose) -> f64 {
 
 const PAGE: usize = 4096;
 const NO_ACCESS: i32 = 0;
+const READ_ONLY: i32 = 1;
 const READ_AND_WRITE: i32 = 3;
 const PRIVATE_AND_ANONYMOUS: i32 = 0x22;
 /// What stands in the part of a room that is not lent.
@@ -182,11 +208,17 @@ impl Room {
             let nowhere = std::ptr::null_mut();
             let base = mmap(nowhere, size + 2 * PAGE, NO_ACCESS, PRIVATE_AND_ANONYMOUS, -1, 0);
             assert!(base as isize != -1, "no memory");
-            let base = base.cast::<u8>().add(PAGE);
-            assert_eq!(mprotect(base.cast(), size, READ_AND_WRITE), 0, "no access");
-            base
+            base.cast::<u8>().add(PAGE)
         };
-        Room { base, size }
+        let mut room = Room { base, size };
+        room.protect(READ_AND_WRITE);
+        room
+    }
+
+    /// Has the memory between the two pages read alone, or read and written again.
+    fn protect(&mut self, protection: i32) {
+        // SAFETY: the pages are the room's own, and nothing borrows them here.
+        assert_eq!(unsafe { mprotect(self.base.cast(), self.size, protection) }, 0, "no access");
     }
 
     fn bytes(&mut self) -> &mut [u8] {
@@ -249,20 +281,37 @@ impl Against {
 }
 
 /// Calls a function with job and plan buffer each against an inaccessible page, by turns the one behind and the one before.
-/// The rest of their pages holds canaries.
+/// The rest of their pages holds canaries. The archive's tells places too, and has a writer beside it.
 pub struct Guarded {
     function: Function,
     job: Room,
     out: Room,
     next: Against,
+    next_place: Against,
+    writer: Option<GuardedWriter>,
 }
 
 impl Guarded {
-    /// A caller of this function; job books of at most 4,096 bytes, plan buffers of at most 45,056. The first call is made
-    /// against these pages.
+    /// A caller of this function; job books of at most 4,096 bytes, plan buffers of at most 45,056. The first call, and the first
+    /// question for a place, is made against these pages.
     pub fn new(function: Function, first: Against) -> Guarded {
-        Guarded { function, job: Room::new(1), out: Room::new(MOST_PAGES), next: first }
+        let writer = (function == Function::Archive).then(|| GuardedWriter::new(JobWriter::Archive, first));
+        let (job, out) = (Room::new(1), Room::new(MOST_PAGES));
+        Guarded { function, job, out, next: first, next_place: first, writer }
     }
+
+    /// What became of a lent job, and of the bytes around it.
+    fn strayed(&mut self, job_at: usize, job: &[u8]) -> Option<String> {
+        if &self.job.bytes()[job_at..job_at + job.len()] != job {
+            return Some("the job was changed".to_string());
+        }
+        around(self.job.changed_around(job_at, job.len()))
+    }
+}
+
+/// Says in words how many bytes were changed outside the lent ones, if any were.
+fn around(changed: usize) -> Option<String> {
+    (changed > 0).then(|| format!("bytes changed outside the lent ones: {changed}"))
 }
 
 impl Caller for Guarded {
@@ -275,16 +324,101 @@ impl Caller for Guarded {
         let answer = unsafe {
             self.function.pointer()(self.job.base.add(job_at), job.len(), self.out.base.add(out_at), out.len())
         };
-        let mut strayed = None;
-        if &self.job.bytes()[job_at..job_at + job.len()] != job {
-            strayed = Some("the job was changed".to_string());
-        }
-        let around = self.job.changed_around(job_at, job.len()) + self.out.changed_around(out_at, out.len());
-        if around > 0 {
-            strayed = Some(format!("bytes changed outside the lent ones: {around}"));
-        }
+        let strayed = around(self.out.changed_around(out_at, out.len())).or(self.strayed(job_at, job));
         out.copy_from_slice(&self.out.bytes()[out_at..out_at + out.len()]);
         Called { answer, strayed }
+    }
+
+    fn place(&mut self, job: &[u8], out_len: usize) -> Option<Answered> {
+        if self.function != Function::Archive {
+            return None;
+        }
+        let job_at = self.job.lend(job, self.next_place);
+        self.next_place = self.next_place.other();
+        // SAFETY: the job lies in a room that lives. A function that strays beyond it hits canaries, or a page that it may not
+        // touch; then the process ends.
+        let answer = unsafe { trench_plan_place(self.job.base.add(job_at), job.len(), out_len) } as i64;
+        Some(Answered { answer, strayed: self.strayed(job_at, job) })
+    }
+
+    fn writer(&mut self) -> Option<&mut dyn Writer> {
+        self.writer.as_mut().map(|writer| writer as &mut dyn Writer)
+    }
+}
+
+/// The functions that write job books.
+#[derive(Clone, Copy, Debug, PartialEq, Eq)]
+pub enum JobWriter {
+    /// Those of the archive.
+    Archive,
+    /// `stray_job` and `stray_job_place`, which do what those must not.
+    Stray,
+}
+
+/// Calls the writer with list and buffer each against an inaccessible page, by turns the one behind and the one before. The
+/// rest of their pages holds canaries. While the place is asked for, nobody may write into the buffer.
+pub struct GuardedWriter {
+    functions: JobWriter,
+    list: Room,
+    out: Room,
+    next: Against,
+    next_place: Against,
+}
+
+/// The same bits as words.
+fn words_of(list: &[i32]) -> Vec<u32> {
+    list.iter().map(|&number| number as u32).collect()
+}
+
+impl GuardedWriter {
+    /// A caller of these functions; lists of at most 1,024 numbers, buffers of at most 4,096 bytes. The first call of each is
+    /// made against these pages.
+    pub fn new(functions: JobWriter, first: Against) -> GuardedWriter {
+        GuardedWriter { functions, list: Room::new(1), out: Room::new(1), next: first, next_place: first }
+    }
+
+    /// Lends list and buffer, and gives their offsets.
+    fn lend(&mut self, list: &[i32], out: &[u8], against: Against) -> (usize, usize) {
+        (self.list.lend_words(&words_of(list), against), self.out.lend(out, against))
+    }
+
+    /// Takes both back: the buffer as it then is, and in words what was changed besides.
+    fn give_back(&mut self, (list_at, out_at): (usize, usize), list: &[i32], out: &mut [u8]) -> Option<String> {
+        out.copy_from_slice(&self.out.bytes()[out_at..out_at + out.len()]);
+        if self.list.words(list_at, list.len()) != words_of(list) {
+            return Some("the list was changed".to_string());
+        }
+        around(self.list.changed_around(list_at, 4 * list.len()) + self.out.changed_around(out_at, out.len()))
+    }
+}
+
+impl Writer for GuardedWriter {
+    fn write(&mut self, number: u32, list: &[i32], out: &mut [u8]) -> Called {
+        let at = self.lend(list, out, self.next);
+        self.next = self.next.other();
+        let function = if self.functions == JobWriter::Stray { stray_job } else { trench_job };
+        // SAFETY: both parts lie in rooms that live and do not overlap; the list is aligned, since a page is and it fills
+        // whole words at an end of one. A function that strays beyond its parts hits canaries, or a page that it may not
+        // touch; then the process ends.
+        let answer = unsafe {
+            let runs = self.list.base.cast_const().add(at.0).cast();
+            function(number, runs, list.len(), self.out.base.add(at.1), out.len())
+        };
+        Called { answer, strayed: self.give_back(at, list, out) }
+    }
+
+    fn place(&mut self, number: u32, list: &[i32], out: &mut [u8]) -> Answered {
+        let at = self.lend(list, out, self.next_place);
+        self.next_place = self.next_place.other();
+        let function = if self.functions == JobWriter::Stray { stray_job_place } else { trench_job_place };
+        self.out.protect(READ_ONLY);
+        // SAFETY: as above; a function that writes into the buffer ends the process too.
+        let answer = unsafe {
+            let runs = self.list.base.cast_const().add(at.0).cast();
+            function(number, runs, list.len(), self.out.base.cast_const().add(at.1), out.len())
+        } as i64;
+        self.out.protect(READ_AND_WRITE);
+        Answered { answer, strayed: self.give_back(at, list, out) }
     }
 }
 
@@ -359,15 +493,12 @@ impl Asker for GuardedReader {
         let words_at = self.words.lend_words(words, self.next);
         self.next = self.next.other();
         let answer = self.call(question, places_at, words_at, words.len());
-        let mut strayed = None;
-        if self.places.words(places_at, list.len()) != list {
-            strayed = Some("the places were changed".to_string());
-        }
-        let around = self.places.changed_around(places_at, 4 * list.len())
+        let changed = self.places.changed_around(places_at, 4 * list.len())
             + self.words.changed_around(words_at, 4 * words.len());
-        if around > 0 {
-            strayed = Some(format!("bytes changed outside the lent ones: {around}"));
-        }
+        let strayed = match self.places.words(places_at, list.len()) == list {
+            true => around(changed),
+            false => Some("the places were changed".to_string()),
+        };
         words.copy_from_slice(&self.words.words(words_at, words.len()));
         Answered { answer, strayed }
     }

@@ -1,5 +1,5 @@
-//! The static archive of planner and reader, linked into Rust: safe calls of it, and calls with memory between pages that nobody
-//! may touch. And the proved programs, run as processes.
+//! The static archive of planner, reader and writer, linked into Rust: safe calls of it, and calls with memory between pages
+//! that nobody may touch. And the proved programs, run as processes.
 
 use std::process::ExitCode;
 

@@ -8,7 +8,8 @@ use std::path::{Path, PathBuf};
 
 use common::{compile, has, root, run, text};
 
-/// Plans a job of one run, a blank one and a refused one, and reads their plans, with every name of the header in use.
+/// Plans a job of one run, a blank one and a refused one, writes jobs from lists, and reads plans, with every name of the
+/// header in use.
 const PROGRAM: &str = r#"
 #include "trench.h"
 #include "trench.h"
@@ -22,6 +23,9 @@ static uint8_t out[TRENCH_PLAN_ROOM];
 
 /* The types that callers rely on. */
 static int32_t (*const plan)(const uint8_t *, size_t, uint8_t *, size_t) = trench_plan;
+static size_t (*const plan_place)(const uint8_t *, size_t, size_t) = trench_plan_place;
+static int32_t (*const write_job)(uint32_t, const int32_t *, size_t, uint8_t *, size_t) = trench_job;
+static size_t (*const job_place)(uint32_t, const int32_t *, size_t, const uint8_t *, size_t) = trench_job_place;
 static int32_t (*const read_plan)(const uint8_t *, size_t) = trench_read;
 static size_t (*const read_place)(const uint8_t *, size_t) = trench_read_place;
 static size_t (*const figures_of)(const uint8_t *, size_t, uint32_t *, size_t) = trench_figures;
@@ -92,6 +96,62 @@ static int read_back(void)
     return places[0] == 0 && route_of(out, book, places, TRENCH_PLACES, 0, route, TRENCH_ROUTE) == 0 ? 0 : 32;
 }
 
+/* Writes the job of two runs and a blank one from lists, and has lists refused with every number; 0, or where it went wrong. */
+static int write_jobs(void)
+{
+    static const int32_t runs[2 * TRENCH_RUN] = { 1, 0, 0, 3, 4, 9999, -1, -1000000, 1000000, 0 };
+    static const uint8_t written[] = { 0x48, 0xFE, 0xFF, 0xFF, 0xFF,
+        0x52, 1, 0, 0, 0, 0, 0, 0, 0, 0, 0, 3, 0, 0, 0, 4, 0, 0, 0,
+        0x52, 0x0F, 0x27, 0xFF, 0xFF, 0xFF, 0xFF, 0xC0, 0xBD, 0xF0, 0xFF, 0x40, 0x42, 0x0F, 0, 0, 0, 0, 0,
+        0x5A, 2, 0 };
+    static int32_t many[33 * TRENCH_RUN];
+    uint8_t book[TRENCH_LONGEST_JOB];
+    int32_t wrong[2 * TRENCH_RUN];
+    memset(book, 0x77, sizeof book);
+    if (write_job(0xFFFFFFFE, runs, 10, book, 46) != 46 || memcmp(book, written, 46) != 0 || book[46] != 0x77)
+        return 40;
+    if (job_place(0xFFFFFFFE, runs, 10, book, 46) != 0)
+        return 41;
+    memset(book, 0x77, sizeof book);
+    if (write_job(7, runs, 10, book, 45) != -TRENCH_SHORT_BUFFER || job_place(7, runs, 10, book, 45) != 0 || book[0] != 0x77)
+        return 42;
+    if (write_job(7, runs, 9, book, sizeof book) != -TRENCH_CUT || job_place(7, runs, 9, book, sizeof book) != 9)
+        return 43;
+    memcpy(wrong, runs, sizeof wrong);
+    wrong[5] = 1;
+    if (write_job(7, wrong, 10, book, 0) != -TRENCH_RUN_NUMBER || job_place(7, wrong, 10, book, 0) != 1)
+        return 44;
+    wrong[5] = 2, wrong[9] = -1000001;
+    if (write_job(7, wrong, 10, book, sizeof book) != -TRENCH_COORDINATE || job_place(7, wrong, 10, book, sizeof book) != 1)
+        return 45;
+    for (int32_t i = 0; i < 33; i++)
+        many[TRENCH_RUN * i] = i + 1;
+    if (write_job(7, many, 165, book, sizeof book) != -TRENCH_TOO_MANY_RUNS || job_place(7, many, 165, book, sizeof book) != 32)
+        return 46;
+    if (book[0] != 0x77 || book[TRENCH_LONGEST_JOB - 1] != 0x77)
+        return 47;
+    if (write_job(7, many, 160, book, sizeof book) != TRENCH_LONGEST_JOB || book[TRENCH_LONGEST_JOB - 2] != TRENCH_MOST_RUNS)
+        return 48;
+    if (write_job(7, runs, 5, book, sizeof book) != sizeof job || memcmp(book, job, sizeof job) != 0)
+        return 49;
+    return write_job(7, runs, 0, book, 8) == 8 && memcmp(book, blank, 8) == 0 ? 0 : 50;
+}
+
+/* The places of a job's refusals; 0, or where it went wrong. */
+static int ask_places(void)
+{
+    uint8_t wrong[sizeof job + 1] = { 0 };
+    memcpy(wrong, job, sizeof job);
+    if (plan_place(job, sizeof job, sizeof out) != 0 || plan_place(job, sizeof job - 1, sizeof out - 1) != 0)
+        return 60;
+    if (plan_place(job, sizeof job - 1, sizeof out) != 24 || plan_place(job, 24, sizeof out) != 24)
+        return 61;
+    if (plan_place(wrong, sizeof wrong, sizeof out) != sizeof job)
+        return 62;
+    wrong[6] = 0;
+    return plan_place(wrong, sizeof wrong, sizeof out) == 5 ? 0 : 63;
+}
+
 int main(void)
 {
     int32_t length = trench_plan(job, sizeof job, out, sizeof out);
@@ -114,7 +174,10 @@ int main(void)
         return 7;
     if (TRENCH_MOST_RUNS != 32 || TRENCH_MOST_CORNERS != 127 || TRENCH_STACK < 65536)
         return 8;
-    return read_back();
+    int wrong = write_jobs();
+    if (wrong == 0)
+        wrong = ask_places();
+    return wrong ? wrong : read_back();
 }
 "#;
 
@@ -154,5 +217,5 @@ fn every_function_of_the_archive_is_declared() {
     let listed = run(Path::new("nm"), &["--extern-only", "--defined-only", env!("TRENCH_ARCHIVE_COPY")], &[]);
     let listed = text(&listed.stdout);
     assert_eq!(names(listed.lines().filter(|line| line.contains(" T "))), declared);
-    assert_eq!(declared.len(), 7);
+    assert_eq!(declared.len(), 10);
 }

@@ -1,5 +1,5 @@
-//! The map program, compiled with sanitizers: draws every corner and every crossing of every plan, planned or stored, and tells
-//! every refusal with its place.
+//! The map program, compiled with sanitizers: draws every corner and every crossing of every plan, planned or stored, makes job
+//! books of clicked points, and tells every refusal with its place.
 
 mod common;
 
@@ -351,6 +351,167 @@ fn damaged_books_are_refused_with_their_place() {
     }
 }
 
+/// A file that a test may write, and that is not there yet.
+fn new_file(name: &str) -> PathBuf {
+    let path = Path::new(env!("CARGO_TARGET_TMPDIR")).join(name);
+    let _ = std::fs::remove_file(&path);
+    path
+}
+
+/// What the program does with clicked points, on the command line or on standard input: its status, the drawing, what it tells,
+/// and the job book, if it wrote one.
+fn clicked(number: &str, book: &Path, points: &str, typed: bool) -> (Option<i32>, String, String, Option<Vec<u8>>) {
+    let _ = std::fs::remove_file(book);
+    let mut words = vec!["--clicks", number, book.to_str().expect("a name")];
+    if !typed {
+        words.extend(points.split_whitespace());
+    }
+    let output = run(map(), &words, if typed { points.as_bytes() } else { b"7,7" });
+    (output.status.code(), text(&output.stdout), text(&output.stderr), std::fs::read(book).ok())
+}
+
+/// The points of a job's runs, in their order.
+fn points(job: &Job) -> String {
+    line::show(job).replace(';', "\n ")
+}
+
+/// Clicked points make this job book, whichever way they come in, and the drawing is that of the book.
+fn assert_clicked(job: &Job, book: &Path) {
+    let bytes = job_bytes(job);
+    for typed in [true, false] {
+        if !typed && job.runs.is_empty() {
+            continue;
+        }
+        let (status, drawing, told, written) = clicked(&job.number.to_string(), book, &points(job), typed);
+        assert_eq!(written.as_ref(), Some(&bytes), "the job book of {}", line::show(job));
+        match verdict(&bytes) {
+            Ok(_) => assert_eq!((status, told, drawing), (Some(0), String::new(), drawn(map(), &["-"], &bytes))),
+            Err(refused) => {
+                let words = format!("map: {}: {refused}: {}\n", book.display(), words(refused.number));
+                assert_eq!((refused.number, status, told, drawing), (11, Some(1), words, String::new()));
+            }
+        }
+    }
+}
+
+/// The samples whose runs are numbered 1, 2, 3, also those that are no star, are made of their points again.
+#[test]
+fn samples_are_clicked() {
+    let book = new_file("clicked-sample.job");
+    let mut counts = [0, 0];
+    for path in samples("job") {
+        let bytes = std::fs::read(&path).expect("a sample");
+        let Ok(job) = refusal::read(&bytes) else { continue };
+        if job.runs.iter().zip(1..).all(|(run, number)| run.number == number) {
+            assert_clicked(&job, &book);
+            assert_eq!(std::fs::read(&book).expect("a job book"), bytes, "{}", path.display());
+            counts[usize::from(verdict(&bytes).is_ok())] += 1;
+        }
+    }
+    assert!(counts[0] > 2 && counts[1] > 10, "no stars, and stars: {counts:?}");
+}
+
+#[test]
+fn stars_are_clicked() {
+    let book = new_file("clicked-star.job");
+    for n in 0..26 {
+        let mut random = Random::nth(28, n);
+        let mut job = generate::star(&mut random, KINDS[n as usize % KINDS.len()]);
+        job.runs.iter_mut().zip(1..).for_each(|(run, number)| run.number = number);
+        assert_clicked(&job, &book);
+    }
+    let full = generate::full_star(&mut Random::nth(29, 0));
+    let runs = full.runs.iter().zip(1..).map(|(run, number)| Run { number, ..*run }).collect();
+    assert_clicked(&Job { number: u32::MAX, runs }, &book);
+    assert_clicked(&Job { number: 0, runs: Vec::new() }, &book);
+}
+
+/// The writer's refusals are told with the run as it was clicked, and no file is written.
+#[test]
+fn clicked_runs_are_refused() {
+    let book = new_file("clicked-refused.job");
+    let assert_refused = |points: &str, number: i32, place: usize| {
+        for typed in [true, false] {
+            let (status, drawing, told, written) = clicked("7", &book, points, typed);
+            let told_due =
+                format!("map: {}: refused {number} at {place}: run {}: {}\n", book.display(), place + 1, words(number));
+            assert_eq!((status, drawing, told, written), (Some(1), String::new(), told_due, None), "{points}");
+        }
+    };
+    for n in 0..16 {
+        let (run, field) = (n % 3, n % 4);
+        let mut coordinates = [[0, 0, 40, 30], [0, 10, 40, 10], [20, 20, 20, 50]];
+        coordinates[run][field] = [FAR + 1, -FAR - 1, i32::MAX, i32::MIN][n / 4];
+        let points: Vec<String> = coordinates.iter().map(|[x, y, w, z]| format!("{x},{y} {w},{z}")).collect();
+        assert_refused(&points.join(" "), 8, run);
+    }
+    let many = |runs: usize, points: &str| vec![points; runs].join("\t");
+    for runs in [33, 34, 100, 10_001] {
+        assert_refused(&many(runs, "0,0 1,1"), 9, 32);
+    }
+    assert_refused(&many(33, "1000001,0 1,1"), 9, 32);
+    assert_eq!(clicked("7", &book, &many(32, "0,0 1,1"), true).0, Some(1), "32 equal runs are no star");
+    assert_eq!(std::fs::read(&book).map(|bytes| bytes.len()).ok(), Some(616), "and are a job book");
+}
+
+/// Coordinates at the ends of their range are clicked too.
+#[test]
+fn the_farthest_points_are_clicked() {
+    let book = new_file("clicked-far.job");
+    let far = line::parse("-1000000,1000000 1000000,-1000000; 1000000,1000000 -1000000,-1000000", 7);
+    assert_clicked(&far.expect("a job line").expect("a job"), &book);
+}
+
+/// What is no point, or no job number, is told by itself, and no file is written.
+#[test]
+fn what_cannot_be_clicked() {
+    let book = new_file("clicked-wrong.job");
+    let no_point = "is no point: two whole numbers of 32 bits with a comma between are wanted, as in 40,-30";
+    let wrong =
+        ["5", "5,", ",5", "5;5", "5,5,5", "5,5;", "+5,5", "5,+5", "--5,5", "5,-", "x,5", "5,5x", "0x5,5", "5.0,5", "-"];
+    let too_wide =
+        ["2147483648,0", "0,2147483648", "-2147483649,0", "0,-2147483649", "4294967296,0", "99999999999999999999,0"];
+    for (n, point) in wrong.iter().chain(&too_wide).enumerate() {
+        let points = [format!("{point} 1,1"), format!("1,1 {point}"), format!("0,0 1,1 {point}")][n % 3].clone();
+        let due = (Some(2), String::new(), format!("map: {point}: {no_point}\n"), None);
+        for typed in [true, false] {
+            assert_eq!(clicked("7", &book, &points, typed), due, "{points}");
+        }
+    }
+    for (points, last) in [("5,-5", "5,-5"), ("0,0 1,1 2147483647,-2147483648", "2147483647,-2147483648")] {
+        let due = (Some(2), String::new(), format!("map: {last}: is a point without its second\n"), None);
+        assert_eq!((clicked("7", &book, points, true), clicked("7", &book, points, false)), (due.clone(), due));
+    }
+    for number in ["", "x", "-1", "7x", "4294967296", "1,1"] {
+        let told = format!("map: {number}: is no job number: one from 0 to 4294967295 is wanted\n");
+        assert_eq!(clicked(number, &book, "0,0 1,1", false), (Some(2), String::new(), told, None));
+    }
+    let zero = clicked("7", &book, "0,0\01 1,1", true);
+    assert_eq!((zero.0, zero.2, zero.3), (Some(2), format!("map: 0,0?1: {no_point}\n"), None), "a byte 0");
+    let long = "0".repeat(1_000) + ",1 1,1";
+    let told = format!("map: {}: is too long for a point\n", "0".repeat(63));
+    assert_eq!(clicked("7", &book, &long, true), (Some(2), String::new(), told, None), "a long word");
+}
+
+/// A job book that cannot be written is told; one that stood there is replaced, or stays where the runs are refused.
+#[test]
+fn job_books_that_are_there() {
+    let missing = clicked("7", Path::new("no/such/folder/book.job"), "0,0 1,1", false);
+    let told = "map: no/such/folder/book.job: cannot be written\n".to_string();
+    assert_eq!(missing, (Some(2), String::new(), told, None));
+    let full = run(map(), &["--clicks", "7", "/dev/full", "0,0", "1,1"], &[]);
+    assert_eq!((full.status.code(), text(&full.stderr)), (Some(2), "map: /dev/full: cannot be written\n".to_string()));
+    let path = new_file("clicked-before.job");
+    let name = path.to_str().expect("a name");
+    std::fs::write(&path, [7; 700]).expect("a file");
+    for (points, status) in [(["0,0", "1000001,1"], 1), (["0,0", "1"], 2)] {
+        assert_eq!(run(map(), &[&["--clicks", "7", name], &points[..]].concat(), &[]).status.code(), Some(status));
+        assert_eq!(std::fs::read(&path).expect("the file"), [7; 700]);
+    }
+    assert_eq!(run(map(), &["--clicks", "7", name, "0,0", "1,1"], &[]).status.code(), Some(0));
+    assert_eq!(std::fs::read(&path).expect("the job book").len(), 27);
+}
+
 #[test]
 fn stored_samples_are_drawn_or_refused() {
     let map = map();
@@ -468,7 +629,7 @@ fn plan_books_in_files() {
 #[test]
 fn what_cannot_be_read_or_written() {
     let map = map();
-    for words in [&[][..], &["a", "b"], &["--plan", "a", "b"]] {
+    for words in [&[][..], &["a", "b"], &["--plan", "a", "b"], &["--clicks", "7"], &["0,0", "1,1", "2,2", "3,3"]] {
         let output = run(map, words, &[]);
         assert_eq!(output.status.code(), Some(2), "{words:?}");
         assert!(text(&output.stderr).starts_with("usage: "), "{words:?}");

@@ -5,16 +5,18 @@ mod common;
 use std::path::Path;
 
 use common::{planned, run, samples, text};
-use trench_archive::call::{Against, GuardedReader, Reader};
+use trench_archive::call::{Against, GuardedReader, GuardedWriter, JobWriter, Reader, plan_place};
 use trench_check::book::job_bytes;
 use trench_check::job::{Job, Point};
+use trench_check::job_list::list_of;
 use trench_check::judge::judge;
 use trench_check::listing;
 use trench_check::pits;
 use trench_check::plan_book::{PlanBook, RouteRecord};
 use trench_check::read_back::{Asker, PLACES, Question, listed};
-use trench_check::refusal::{Refusal, verdict, words};
+use trench_check::refusal::{self, PLAN_ROOM, Refusal, verdict, words};
 use trench_check::text::{parse, why_no_star};
+use trench_check::write_job::Writer;
 
 fn desk() -> &'static Path {
     Path::new(env!("CARGO_BIN_EXE_desk"))
@@ -38,6 +40,23 @@ fn typed_samples_are_their_job_books() {
     }
 }
 
+/// Each job book that is well formed is what the archive writes for its number and runs; there are such that are no star.
+#[test]
+fn job_books_are_written_from_their_runs() {
+    let mut writer = GuardedWriter::new(JobWriter::Archive, Against::Back);
+    let mut stars = [0, 0];
+    for path in samples("job") {
+        let bytes = std::fs::read(&path).expect("a sample");
+        let Ok(job) = refusal::read(&bytes) else { continue };
+        let mut out = vec![0; bytes.len()];
+        let called = writer.write(job.number, &list_of(&job), &mut out);
+        assert_eq!((called.answer, called.strayed), (bytes.len() as i32, None), "{}", path.display());
+        assert_eq!(out, bytes, "{}", path.display());
+        stars[usize::from(verdict(&bytes).is_ok())] += 1;
+    }
+    assert!(stars[0] > 2 && stars[1] > 10, "stars and others: {stars:?}");
+}
+
 /// Several least plans may exist, so a stored listing need not be the archive's: it must be a right one, with the same figures.
 #[test]
 fn stored_listings_are_right() {
@@ -48,6 +67,7 @@ fn stored_listings_are_right() {
             Err(refusal) => {
                 assert_eq!(stored, listing::of_refusal(refusal), "{}", path.display());
                 assert_eq!(planned(&job), Err(-refusal.number), "{}", path.display());
+                assert_eq!(plan_place(&job, PLAN_ROOM), refusal.place, "{}", path.display());
             }
             Ok(_) => {
                 let book = listing::read_plan(&stored).unwrap_or_else(|fault| panic!("{}: {fault}", path.display()));

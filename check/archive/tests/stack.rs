@@ -1,4 +1,4 @@
-//! A call needs no more stack than `include/trench.h` says, and reading a plan far less.
+//! A call needs no more stack than `include/trench.h` says, and reading a plan and writing a job far less.
 
 mod common;
 
@@ -18,8 +18,10 @@ fn the_stack_that_a_call_needs() {
         assert_eq!(output.status.code(), Some(0), "{printed} bytes are needed");
         printed.parse::<usize>().expect("a number")
     };
-    let (all, reading) = (needed(&jobs), needed(&[&["--read"], &jobs[..]].concat()));
-    println!("stack: {all} bytes, to read a plan {reading}");
+    let [reading, writing] = ["--read", "--write"].map(|word| needed(&[&[word], &jobs[..]].concat()));
+    let all = needed(&jobs);
+    println!("stack: {all} bytes, to read a plan {reading}, to write a job {writing}");
     assert!(all > 1_000 && reading > 0, "something was measured");
     assert!(reading <= all && reading <= 16_384, "reading a plan needs {reading} bytes");
+    assert!(writing <= all && writing <= 16_384, "writing a job needs {writing} bytes");
 }

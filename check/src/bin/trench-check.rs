@@ -1,5 +1,5 @@
-//! Makes vectors (small jobs, their figures, their bytes, damaged books), and reads and judges plans. `check/README.md` says
-//! what each command reads and prints.
+//! Makes vectors (small jobs, their figures, their bytes, damaged books, lists of runs), writes jobs, and reads and judges plans.
+//! `check/README.md` says what each command reads and prints.
 
 use std::io::Read;
 use std::process::ExitCode;
@@ -15,6 +15,7 @@ use trench_check::in_out;
 use trench_check::job::Job;
 use trench_check::judge::judge;
 use trench_check::line;
+use trench_check::list_line;
 use trench_check::listing;
 use trench_check::plan_book::PlanBook;
 use trench_check::planner;
@@ -33,6 +34,8 @@ usage: trench-check jobs SEED COUNT      small star jobs of every kind, one a li
        trench-check cases                the case of every two boxes with corners on a grid of 4 x 4 points
        trench-check damaged SEED COUNT   damaged job books in hexadecimal, with the refusal that is due
        trench-check broken SEED COUNT    damaged plan books likewise
+       trench-check lists SEED COUNT     lists of runs in hexadecimal, with a buffer's length and a job number
+       trench-check written [FILE]       the job book of each list of a file of such lines, or its refusal
        trench-check list JOB             the listing of a job book's plan, by the independent planner
        trench-check read PLAN            the listing of a plan book, by the independent reader
        trench-check judge JOB PLAN       what is wrong with a plan book of a job book";
@@ -57,6 +60,9 @@ fn main() -> ExitCode {
         ["broken", seed, count] => {
             numbers(seed, count).map(|(seed, count)| show_damaged(seed, count, book_damage::WAYS, book_damage::damaged))
         }
+        ["lists", seed, count] => numbers(seed, count).map(|(seed, count)| lists(seed, count)),
+        ["written"] => each_list(None),
+        ["written", file] => each_list(Some(file)),
         ["list", job] => list(job),
         ["read", plan] => read(plan).map(|plan| print!("{}", read_back::listed(&plan))),
         ["judge", job, plan] => judged(job, plan),
@@ -97,6 +103,10 @@ fn show_damaged(seed: u64, count: u64, ways: usize, damaged: fn(&mut Random, usi
     }
 }
 
+fn lists(seed: u64, count: u64) {
+    list_line::short_cases(seed).take(count as usize).for_each(|case| println!("{}", list_line::show(&case)));
+}
+
 fn read(name: &str) -> Result<Vec<u8>, String> {
     std::fs::read(name).map_err(|error| format!("{name}: {error}"))
 }
@@ -118,8 +128,8 @@ fn judged(job: &str, plan: &str) -> Result<(), String> {
     Err(faults.join("\n"))
 }
 
-/// Prints each job of a file (or of standard input) with what `answer` says of it. The job numbers are 1, 2, 3.
-fn each_job(file: Option<&str>, answer: impl Fn(&Job) -> String) -> Result<(), String> {
+/// Does something with each line of a file, or of standard input; what goes wrong is told with the line.
+fn each_line(file: Option<&str>, mut deed: impl FnMut(&str) -> Result<(), String>) -> Result<(), String> {
     let mut text = String::new();
     match file {
         Some(name) => text = std::fs::read_to_string(name).map_err(|error| format!("{name}: {error}"))?,
@@ -127,15 +137,31 @@ fn each_job(file: Option<&str>, answer: impl Fn(&Job) -> String) -> Result<(), S
             std::io::stdin().read_to_string(&mut text).map_err(|error| format!("standard input: {error}"))?;
         }
     }
-    let mut number = 0;
-    for (at, words) in text.lines().enumerate() {
+    for (at, line) in text.lines().enumerate() {
         let place = |message| format!("{}: line {}: {message}", file.unwrap_or("standard input"), at + 1);
-        if let Some(job) = line::parse(words, number + 1).map_err(place)? {
+        deed(line).map_err(place)?;
+    }
+    Ok(())
+}
+
+/// Prints each job of a file (or of standard input) with what `answer` says of it. The job numbers are 1, 2, 3.
+fn each_job(file: Option<&str>, answer: impl Fn(&Job) -> String) -> Result<(), String> {
+    let mut number = 0;
+    each_line(file, |words| {
+        if let Some(job) = line::parse(words, number + 1)? {
             number += 1;
             println!("{} | {}", line::show(&job), answer(&job));
         }
-    }
-    Ok(())
+        Ok(())
+    })
+}
+
+/// Prints what the independent writer says of each list.
+fn each_list(file: Option<&str>) -> Result<(), String> {
+    each_line(file, |words| {
+        println!("{}", list_line::written(words)?);
+        Ok(())
+    })
 }
 
 fn figures(job: &Job) -> String {

@@ -1,2 +1,2 @@
--- What the writers' contracts speak of, and no demand.
+-- What the writers' contracts speak of.
 pub mod Bytes

@@ -14,7 +14,8 @@ use Rattle.job_writer.specs.declared.Outcome.{Outcome}
 use Rattle.job_writer.specs.declared.Outcome.the-variants as outcome
 use Rattle.job_writer.specs.Call.{callBy}
 use Rattle.book.specs.Parse.{Parsed, accepted, refused}
-use Rattle.trench.specs.Told.{codeOf, outcomeCode, outcomePlace}
+use Rattle.trench.specs.Told.{codeOf}
+use Rattle.trench.specs.Jobs.{outcomeCode, outcomePlace}
 
 -- the place of an answer is that of the call which it makes
 pub place-by : (a : Answer) (book out : List ℕ) → outcomePlace (callBy a book out .says) ≡ answerPlace a

@@ -1,3 +1,4 @@
 -- What the functions for C answer and leave.
 pub mod Words
 pub mod Told
+pub mod Jobs

@@ -1,12 +1,9 @@
--- What C is told of a plan book (document 02, C-12): the number of routes or minus the refusal number, the place, and figures, routes and corners as words. And of a
--- job book that is written (C-15): its length or minus the refusal number, and the place.
+-- What C is told of a plan book (document 02, C-12): the number of routes or minus the refusal number, the place, and figures, routes and corners as words.
 use mathlib.Core.List.{List, [], _∷_}
 use Prim.Native.Nat.{ℕ}
 use lib.IntN.{ℤ, pos, negℤ}
 use lib.ListN.{length}
 use Rattle.refusal.specs.Refusal.{refusalNumber, refusalPlace}
-use Rattle.job_writer.specs.declared.Outcome.{Outcome}
-use Rattle.job_writer.specs.declared.Outcome.the-variants as outcome
 use Rattle.book.specs.declared.Figures.{Figures}
 use Rattle.book.specs.declared.Figures.the-variants as figures
 use Rattle.book.specs.declared.Route.{Route}
@@ -24,16 +21,6 @@ codeOf (refused x) = negℤ (pos (refusalNumber x))
 abbrev pub placeOf : Parsed → ℕ
 placeOf (accepted h es) = 0
 placeOf (refused x) = refusalPlace x
-
--- the length of a job book, or minus the refusal number
-abbrev pub outcomeCode : Outcome → ℤ
-outcomeCode (outcome.Written n) = pos n
-outcomeCode (outcome.Refused x) = negℤ (pos (refusalNumber x))
-
--- the place of the refusal, 0 where there is none
-abbrev pub outcomePlace : Outcome → ℕ
-outcomePlace (outcome.Written n) = 0
-outcomePlace (outcome.Refused x) = refusalPlace x
 
 -- six figures, three of a route, two of a corner; no word for what there is not
 abbrev pub figureWords : Figures → List ℕ

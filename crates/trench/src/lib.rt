@@ -14,7 +14,8 @@ ghost use Rattle.planner.specs.Outcome.{MapOutcome};
 ghost use Rattle.book.specs.Parse.{parsePlan};
 ghost use Rattle.book.specs.Reading.{figuresOf, placesOf, routeBy, cornerBy};
 ghost use Rattle.trench.specs.Words.{Filled};
-ghost use Rattle.trench.specs.Told.{codeOf, placeOf, outcomeCode, outcomePlace, figureWords, routeWords, spotWords};
+ghost use Rattle.trench.specs.Jobs.{outcomeCode, outcomePlace};
+ghost use Rattle.trench.specs.Told.{codeOf, placeOf, figureWords, routeWords, spotWords};
 
 // Plans a job: the plan's length, or minus the refusal number.
 #[no_mangle]

@@ -5,7 +5,7 @@ use mir.Syntax.{w32}
 use mir.ValLaws.{toZ-ofZ}
 use borrow.Author.Needs.{needs}
 use Rattle.job_writer.proofs.Books.{written-most}
-use Rattle.trench.specs.Told.{outcomeCode}
+use Rattle.trench.specs.Jobs.{outcomeCode}
 use Rattle.trench.proofs.trench_job.Statement.{statement}
 use Rattle.trench.proofs.trench_job.Tie as tie
 

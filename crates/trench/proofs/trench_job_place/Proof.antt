@@ -5,7 +5,7 @@ use borrow.Author.Needs.{needs}
 use Rattle.job.specs.Reading.{answerPlace}
 use Rattle.job_writer.specs.Listed.{listAnswer}
 use Rattle.job_writer.specs.Call.{bookOf, callOf}
-use Rattle.trench.specs.Told.{outcomePlace}
+use Rattle.trench.specs.Jobs.{outcomePlace}
 use Rattle.trench.proofs.Codes.{place-by}
 use Rattle.trench.proofs.trench_job_place.Statement.{statement}
 use Rattle.trench.proofs.trench_job_place.Tie as tie
