@@ -8,7 +8,7 @@ use native.Mathlib.Omega.{arith}
 use native.Mathlib.Decide.{decLt}
 use lib.ListN.{length, getD}
 use Rattle.refusal.specs.declared.Refusal.{Refusal}
-use Rattle.refusal.specs.declared.Refusal.the-variants.{ShortWork, ShortPlan, Cut, UnknownKind, Misplaced, WrongCount, WrongNumber, OutOfRange, TooManyRuns, NoStar, NotWhole, NoTurn, Miscounted}
+use Rattle.refusal.specs.declared.Refusal.the-variants.{ShortWork, ShortBuffer, Cut, UnknownKind, Misplaced, WrongCount, WrongNumber, OutOfRange, TooManyRuns, NoStar, NotWhole, NoTurn, Miscounted}
 use Rattle.refusal.specs.Refusal.{refusalNumber, refusalPlace}
 use Rattle.refusal.proofs.Numbers.{same-refusal}
 use Rattle.job.specs.Order.{order, stageOf, turnOf, Sooner, by-stage, by-place, by-turn}
@@ -24,7 +24,7 @@ InOrder x = stageOf x < length order
 -- its number is that of its stage and turn
 number-in : (x : Refusal) → InOrder x → numberIn (stageOf x) (turnOf x) ≡ refusalNumber x
 number-in ShortWork i = refl
-number-in ShortPlan i = refl
+number-in ShortBuffer i = refl
 number-in (Cut p) i = refl
 number-in (UnknownKind p) i = refl
 number-in (Misplaced p) i = refl

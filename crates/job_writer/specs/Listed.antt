@@ -8,7 +8,7 @@ use lib.Dec.{eqb, ltb}
 use lib.IntN.{ℤ, pos, negℤ, natAbs, _+ℤ_}
 use lib.ListN.{length, getD}
 use lib.Signed.{leZ, ltZ}
-use Rattle.refusal.specs.declared.Refusal.the-variants.{ShortPlan, Cut, WrongNumber, OutOfRange, TooManyRuns}
+use Rattle.refusal.specs.declared.Refusal.the-variants.{ShortBuffer, Cut, WrongNumber, OutOfRange, TooManyRuns}
 use Rattle.job.specs.declared.Run.{Run}
 use Rattle.job.specs.declared.Answer.{Answer}
 use Rattle.job.specs.declared.Answer.the-variants.{Accepted, Refused}
@@ -80,7 +80,7 @@ runsAnswer list (suc left) i = firstOf (runAnswer list i) (runsAnswer list left 
 
 -- 2: "A buffer shorter than 8 bytes plus 19 a run is refused as 2 with place 0"
 abbrev pub roomAnswer : (count room : ℕ) → Answer
-roomAnswer count room = cond (ltb room (8 + 19 * count)) (Refused ShortPlan) Accepted
+roomAnswer count room = cond (ltb room (8 + 19 * count)) (Refused ShortBuffer) Accepted
 
 -- "The order is 3, 9, then 7 and 8 run by run, then 2". 3: "A list whose length is no multiple of five is refused as 3 with the list's length as place"; 9: "a
 -- 33rd run" (01), whose index is 32.

@@ -112,7 +112,7 @@ fn room_answer(count: usize, room: usize) -> Answer
     ensures { λ r. ⌜ r ≡ roomAnswer count room ⌝ }
 {
     if room < 8 + 19 * count {
-        return Answer::Refused(Refusal::ShortPlan);
+        return Answer::Refused(Refusal::ShortBuffer);
     }
     Answer::Accepted
 }

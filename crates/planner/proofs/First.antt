@@ -10,7 +10,7 @@ use borrow.Author.Tests.{ltb-true, ltb-false}
 use lib.Dec.{ltb}
 use Rattle.job.specs.declared.Run.{Run as Read}
 use Rattle.refusal.specs.declared.Refusal.{Refusal}
-use Rattle.refusal.specs.declared.Refusal.the-variants.{ShortWork, ShortPlan, NoStar}
+use Rattle.refusal.specs.declared.Refusal.the-variants.{ShortWork, ShortBuffer, NoStar}
 use Rattle.job.specs.Order.{stageOf, turnOf, Sooner, by-stage, by-place, by-turn, FirstOf}
 use Rattle.job.specs.Applies.{AppliesIn}
 use Rattle.job.specs.Parse.{Parsed, accepted, refused, parse}
@@ -34,7 +34,7 @@ none-sooner y (by-place e h) = omega arith
 none-sooner y (by-turn e f h) = omega arith
 
 -- what comes before 2 is in the first stage, and the first there
-first-stage : (y : Refusal) → Sooner y ShortPlan → (stageOf y ≡ 0) × (turnOf y < 1)
+first-stage : (y : Refusal) → Sooner y ShortBuffer → (stageOf y ≡ 0) × (turnOf y < 1)
 first-stage y (by-stage h) = absurd (omega arith)
 first-stage y (by-place e h) = absurd (omega arith)
 first-stage y (by-turn e f h) = (e, h)
@@ -48,7 +48,7 @@ module _ (job : List ℕ) (words bytes : ℕ) (b : Bytes job) where
   later : 16384 ≤ words → 40960 ≤ bytes → (y : Refusal) → Applies job words bytes y
       → AppliesIn job y ⊎ ((j : JobIn job) × (IsStar (runsOf (j .runs)) → ⊥) × (y ≡ NoStar))
   later h k ShortWork (short-work w) = absurd (omega arith)
-  later h k ShortPlan (short-plan o) = absurd (omega arith)
+  later h k ShortBuffer (short-plan o) = absurd (omega arith)
   later h k y (in-bytes a) = inl a
   later h k NoStar (no-star j n) = inr (j, n, refl)
 
@@ -57,12 +57,12 @@ module _ (job : List ℕ) (words bytes : ℕ) (b : Bytes job) where
   first-1 h = record { applies = short-work h; first = λ y a s. none-sooner y s }
 
   -- 2
-  first-2 : 16384 ≤ words → bytes < 40960 → FirstOf (Applies job words bytes) ShortPlan
+  first-2 : 16384 ≤ words → bytes < 40960 → FirstOf (Applies job words bytes) ShortBuffer
   first-2 h k = record { applies = short-plan k; first = λ y a s. not-first y a (first-stage y s) }
     where
       not-first : (y : Refusal) → Applies job words bytes y → (stageOf y ≡ 0) × (turnOf y < 1) → ⊥
       not-first ShortWork (short-work w) s = omega arith
-      not-first ShortPlan (short-plan o) s = omega arith
+      not-first ShortBuffer (short-plan o) s = omega arith
       not-first y (in-bytes a) s = omega (arith, one-stage job y a)
       not-first NoStar (no-star j n) s = omega arith
 
@@ -107,9 +107,9 @@ module _ (job : List ℕ) (words bytes : ℕ) (b : Bytes job) where
           by (inr (number, runs, r, n, z)) = subst (FirstOf (Applies job words bytes)) (sym z) (first-11 h k number runs r n)
 
       go : (s : Bool) → ltb words 16384 ≡ s → (t : Bool) → ltb bytes 40960 ≡ t
-          → cond s (refused ShortWork) (cond t (refused ShortPlan) (judged (parse job))) ≡ refused x → FirstOf (Applies job words bytes) x
+          → cond s (refused ShortWork) (cond t (refused ShortBuffer) (judged (parse job))) ≡ refused x → FirstOf (Applies job words bytes) x
       go true h t k q = subst (FirstOf (Applies job words bytes)) (same ShortWork q) (first-1 (ltb-true words 16384 h))
-      go false h true k q = subst (FirstOf (Applies job words bytes)) (same ShortPlan q) (first-2 (ltb-false words 16384 h) (ltb-true bytes 40960 k))
+      go false h true k q = subst (FirstOf (Applies job words bytes)) (same ShortBuffer q) (first-2 (ltb-false words 16384 h) (ltb-true bytes 40960 k))
       go false h false k q = judge (ltb-false words 16384 h) (ltb-false bytes 40960 k) q
 
   -- where the verdict is a job, nothing applies

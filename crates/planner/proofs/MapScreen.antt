@@ -9,7 +9,7 @@ use mir.Syntax.{w32}
 use mir.Val.{toZ, ofZ}
 use mir.ValLaws.{toZ-pos, toZ-ofZ}
 use Rattle.refusal.specs.declared.Refusal.{Refusal}
-use Rattle.refusal.specs.declared.Refusal.the-variants.{ShortPlan}
+use Rattle.refusal.specs.declared.Refusal.the-variants.{ShortBuffer}
 use Rattle.refusal.specs.Refusal.{refusalNumber, refusalPlace}
 use Rattle.job.specs.Parse.{Parsed, accepted, refused, parse}
 use Rattle.job.specs.Written.{Bytes}
@@ -55,9 +55,9 @@ refusal-told v out out′ x code f o =
     (ap (λ z. toZ w32 (ofZ w32 z)) f ∙ toZ-ofZ w32 (codeOf (said (Refused x))) (minus-fits (refusalNumber x) (refusal-numbers x .1)) ∙ sym f) f o
 
 -- a plan buffer that is too short
-pub told-short : (job out : List ℕ) (code : ℤ) → length out < 40960 → code ≡ codeOf (said (Refused ShortPlan))
+pub told-short : (job out : List ℕ) (code : ℤ) → length out < 40960 → code ≡ codeOf (said (Refused ShortBuffer))
     → MapOutcome (verdict job 16384 (length out)) out (toZ w32 (ofZ w32 code)) out
-told-short job out code h f = refusal-told _ out out ShortPlan code f (short-plan job out 16384 (omega arith) h)
+told-short job out code h f = refusal-told _ out out ShortBuffer code f (short-plan job out 16384 (omega arith) h)
 
 module _ (job out out′ : List ℕ) (r : Answer) (long : 40960 ≤ length out) (o : Outcome (judged (parse job)) out (said r) out′) where
   -- the length of a plan is small

@@ -9,7 +9,7 @@ use borrow.Author.Tests.{lt-ltb, le-ltb, ltb-false}
 use lib.ListN.{length}
 use Rattle.job.specs.declared.Run.{Run as Read}
 use Rattle.refusal.specs.declared.Refusal.{Refusal}
-use Rattle.refusal.specs.declared.Refusal.the-variants.{ShortWork, ShortPlan, NoStar}
+use Rattle.refusal.specs.declared.Refusal.the-variants.{ShortWork, ShortBuffer, NoStar}
 use Rattle.job.specs.Parse.{Parsed, accepted, refused, parse}
 use Rattle.job.specs.Reading.{placeSaid}
 use Rattle.intersection.specs.declared.Star.the-variants as star
@@ -29,7 +29,7 @@ module _ (job out : List ℕ) (words : ℕ) where
   unfolding verdict
   short-work h = rw (lt-ltb words 16384 h) (record { says = refl; plan-kept = refl })
 
-  pub short-plan : 16384 ≤ words → length out < 40960 → Outcome (verdict job words (length out)) out (said (Refused ShortPlan)) out
+  pub short-plan : 16384 ≤ words → length out < 40960 → Outcome (verdict job words (length out)) out (said (Refused ShortBuffer)) out
   unfolding verdict
   short-plan h k = rw (le-ltb words 16384 h, lt-ltb (length out) 40960 k) (record { says = refl; plan-kept = refl })
 
@@ -86,7 +86,7 @@ pub lent-enough : (job : List ℕ) (words bytes number : ℕ) (runs : List Read)
 unfolding verdict
 lent-enough job words bytes number runs e = go (ltb words 16384) refl (ltb bytes 40960) refl e
   where
-    go : (s : Bool) → ltb words 16384 ≡ s → (t : Bool) → ltb bytes 40960 ≡ t → cond s (refused ShortWork) (cond t (refused ShortPlan) (judged (parse job))) ≡ accepted number runs
+    go : (s : Bool) → ltb words 16384 ≡ s → (t : Bool) → ltb bytes 40960 ≡ t → cond s (refused ShortWork) (cond t (refused ShortBuffer) (judged (parse job))) ≡ accepted number runs
         → (16384 ≤ words) × (40960 ≤ bytes) × (judged (parse job) ≡ accepted number runs)
     go true h t k q = absurd (let z : _≡_ {A = ℕ} 0 1 = cc in omega arith)
     go false h true k q = absurd (let z : _≡_ {A = ℕ} 0 1 = cc in omega arith)

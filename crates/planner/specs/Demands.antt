@@ -13,7 +13,7 @@ use Rattle.network.specs.Route.{unionLength, Least}
 use Rattle.network.specs.Graph.{meets, below, isCentre}
 use Rattle.job.specs.declared.Run.{Run as Read}
 use Rattle.refusal.specs.declared.Refusal.{Refusal}
-use Rattle.refusal.specs.declared.Refusal.the-variants.{ShortWork, ShortPlan, NoStar}
+use Rattle.refusal.specs.declared.Refusal.the-variants.{ShortWork, ShortBuffer, NoStar}
 use Rattle.refusal.specs.Refusal.{refusalNumber, refusalPlace}
 use Rattle.job.specs.Applies.{AppliesIn}
 use Rattle.job.specs.Order.{FirstOf}
@@ -48,7 +48,7 @@ pub record Admitted (job : List ℕ) (words bytes : ℕ) : Type 0 where
 -- but no star".
 pub data Applies (job : List ℕ) (words bytes : ℕ) : Refusal → Type 0 where
   short-work : words < 16384 → Applies job words bytes ShortWork
-  short-plan : bytes < 40960 → Applies job words bytes ShortPlan
+  short-plan : bytes < 40960 → Applies job words bytes ShortBuffer
   in-bytes : {x : Refusal} → AppliesIn job x → Applies job words bytes x
   no-star : (j : JobIn job) → (IsStar (runsOf (j .runs)) → ⊥) → Applies job words bytes NoStar
 

@@ -9,7 +9,7 @@ use lib.ListN.{length}
 use Rattle.network.specs.Plane.{Run}
 use Rattle.network.specs.Hanan.{hanan}
 use Rattle.network.specs.Graph.{meets, below, centres}
-use Rattle.refusal.specs.declared.Refusal.the-variants.{ShortWork, ShortPlan, NoStar}
+use Rattle.refusal.specs.declared.Refusal.the-variants.{ShortWork, ShortBuffer, NoStar}
 use Rattle.job.specs.Parse.{Parsed, accepted, refused, parse}
 use Rattle.planner.specs.Call.{runsOf}
 
@@ -33,4 +33,4 @@ judged (refused x) = refused x
 
 -- the lent words and bytes, by their number, come before the job
 unfoldable pub verdict : (job : List ℕ) (work out : ℕ) → Parsed
-verdict job work out = cond (ltb work 16384) (refused ShortWork) (cond (ltb out 40960) (refused ShortPlan) (judged (parse job)))
+verdict job work out = cond (ltb work 16384) (refused ShortWork) (cond (ltb out 40960) (refused ShortBuffer) (judged (parse job)))

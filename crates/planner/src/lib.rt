@@ -90,7 +90,7 @@ pub fn plan(job: &[u8], work: &mut [u32], out: &mut [u8]) -> Answer
         return Answer::Refused(Refusal::ShortWork);
     }
     if out.len() < PLAN_BYTES {
-        return Answer::Refused(Refusal::ShortPlan);
+        return Answer::Refused(Refusal::ShortBuffer);
     }
     let answer = plan_in(job, work, out);
     match answer {
@@ -159,7 +159,7 @@ pub fn plan_for_map(job: &[u8], out: &mut [u8]) -> i32
     ensures { λ r. ⌜ MapOutcome (verdict (now (job .entry)) 16384 (length (now (out .entry)))) (now (out .entry)) r (now (out .exit)) ⌝ }
 {
     if out.len() < PLAN_BYTES {
-        return codes::code_of(Refusal::ShortPlan);
+        return codes::code_of(Refusal::ShortBuffer);
     }
     let answer = plan_own(job, out);
     match answer {

@@ -7,21 +7,21 @@ use mathlib.Core.List.{[], _∷_}
 use native.Mathlib.Omega.{arith}
 use lib.ListN.{getD}
 use Rattle.refusal.specs.declared.Refusal.{Refusal}
-use Rattle.refusal.specs.declared.Refusal.the-variants.{ShortWork, ShortPlan, Cut, UnknownKind, Misplaced, WrongCount, WrongNumber, OutOfRange, TooManyRuns, NoStar, NotWhole, NoTurn, Miscounted}
+use Rattle.refusal.specs.declared.Refusal.the-variants.{ShortWork, ShortBuffer, Cut, UnknownKind, Misplaced, WrongCount, WrongNumber, OutOfRange, TooManyRuns, NoStar, NotWhole, NoTurn, Miscounted}
 use Rattle.refusal.specs.Refusal.{refusalNumber, refusalPlace}
 
 -- the refusal with a number and a place, 11 where no other has the number
 abbrev refusalAt : (number p : ℕ) → Refusal
 refusalAt number p =
     getD
-    (NoStar ∷ ShortWork ∷ ShortPlan ∷ Cut p ∷ UnknownKind p ∷ Misplaced p ∷ WrongCount p ∷ WrongNumber p ∷ OutOfRange p ∷ TooManyRuns p
+    (NoStar ∷ ShortWork ∷ ShortBuffer ∷ Cut p ∷ UnknownKind p ∷ Misplaced p ∷ WrongCount p ∷ WrongNumber p ∷ OutOfRange p ∷ TooManyRuns p
     ∷ NoStar ∷ NoStar ∷ NotWhole p ∷ NoTurn p ∷ Miscounted p ∷ [])
     number NoStar
 
 -- every refusal is the one with its number and place
 refusal-at : (x : Refusal) → refusalAt (refusalNumber x) (refusalPlace x) ≡ x
 refusal-at ShortWork = refl
-refusal-at ShortPlan = refl
+refusal-at ShortBuffer = refl
 refusal-at (Cut p) = refl
 refusal-at (UnknownKind p) = refl
 refusal-at (Misplaced p) = refl
@@ -41,7 +41,7 @@ same-refusal x y n p = sym (refusal-at x) ∙ ap₂ refusalAt n p ∙ refusal-at
 -- refusals have the numbers 1 to 14, and none has 10
 pub refusal-numbers : (x : Refusal) → (1 ≤ refusalNumber x) × (refusalNumber x ≤ 14) × (refusalNumber x ≡ 10 → ⊥)
 refusal-numbers ShortWork = (omega arith, omega arith, λ e. omega arith)
-refusal-numbers ShortPlan = (omega arith, omega arith, λ e. omega arith)
+refusal-numbers ShortBuffer = (omega arith, omega arith, λ e. omega arith)
 refusal-numbers (Cut p) = (omega arith, omega arith, λ e. omega arith)
 refusal-numbers (UnknownKind p) = (omega arith, omega arith, λ e. omega arith)
 refusal-numbers (Misplaced p) = (omega arith, omega arith, λ e. omega arith)

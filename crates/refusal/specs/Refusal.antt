@@ -1,13 +1,13 @@
--- The number and the place of each refusal, of jobs (document 01, "What a call says and leaves") and of plan books (document 02, C-12). 1, 2 and 11 have the
--- place 0; 10 is no refusal's number (document 02, C-11).
+-- The number and the place of each refusal, of jobs (document 01, "What a call says and leaves"), of lists of runs (document 02, C-15) and of plan books (C-12). 1, 2
+-- and 11 have the place 0; 10 is no refusal's number (C-11).
 -- Assumes nothing.
 use Prim.Native.Nat.{ℕ}
 use Rattle.refusal.specs.declared.Refusal.{Refusal}
-use Rattle.refusal.specs.declared.Refusal.the-variants.{ShortWork, ShortPlan, Cut, UnknownKind, Misplaced, WrongCount, WrongNumber, OutOfRange, TooManyRuns, NoStar, NotWhole, NoTurn, Miscounted}
+use Rattle.refusal.specs.declared.Refusal.the-variants.{ShortWork, ShortBuffer, Cut, UnknownKind, Misplaced, WrongCount, WrongNumber, OutOfRange, TooManyRuns, NoStar, NotWhole, NoTurn, Miscounted}
 
 abbrev pub refusalNumber : Refusal → ℕ
 refusalNumber ShortWork = 1
-refusalNumber ShortPlan = 2
+refusalNumber ShortBuffer = 2
 refusalNumber (Cut at) = 3
 refusalNumber (UnknownKind at) = 4
 refusalNumber (Misplaced at) = 5
@@ -22,7 +22,7 @@ refusalNumber (Miscounted at) = 14
 
 abbrev pub refusalPlace : Refusal → ℕ
 refusalPlace ShortWork = 0
-refusalPlace ShortPlan = 0
+refusalPlace ShortBuffer = 0
 refusalPlace (Cut at) = at
 refusalPlace (UnknownKind at) = at
 refusalPlace (Misplaced at) = at

@@ -5,7 +5,7 @@ ghost use Rattle.refusal.specs.Refusal.{refusalNumber, refusalPlace};
 // The documents' numbers 1 to 9 and 11 to 14 in this order. A case that has a place holds it.
 pub enum Refusal {
     ShortWork,
-    ShortPlan,
+    ShortBuffer,
     Cut(usize),
     UnknownKind(usize),
     Misplaced(usize),
@@ -25,7 +25,7 @@ pub fn number(refusal: Refusal) -> u32
 {
     match refusal {
         Refusal::ShortWork => 1,
-        Refusal::ShortPlan => 2,
+        Refusal::ShortBuffer => 2,
         Refusal::Cut(_) => 3,
         Refusal::UnknownKind(_) => 4,
         Refusal::Misplaced(_) => 5,
@@ -46,7 +46,7 @@ pub fn place(refusal: Refusal) -> usize
 {
     match refusal {
         Refusal::ShortWork => 0,
-        Refusal::ShortPlan => 0,
+        Refusal::ShortBuffer => 0,
         Refusal::Cut(at) => at,
         Refusal::UnknownKind(at) => at,
         Refusal::Misplaced(at) => at,

@@ -47,7 +47,7 @@ fn list_lines(lines: &[u8]) {
 fn refusal(nth: u32, place: usize) -> Refusal {
     match nth {
         1 => Refusal::ShortWork,
-        2 => Refusal::ShortPlan,
+        2 => Refusal::ShortBuffer,
         3 => Refusal::Cut(place),
         4 => Refusal::UnknownKind(place),
         5 => Refusal::Misplaced(place),
