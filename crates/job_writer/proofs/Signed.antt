@@ -23,15 +23,15 @@ word-back z h = toZ-ofZ w32 z (record { sfits = h })
 
 -- a coordinate in its range, as a job holds it
 pub record Held (z : ℤ) : Type 0 where
-  pub most : biased z ≤ 2000000
   pub sum : pos (biased z) ≡ z +ℤ pos 1000000
+  pub most : biased z ≤ 2000000
 
 pub in-range-true : (z : ℤ) → inRange z ≡ true → Held z
-in-range-true (pos n) t = record { most = omega (arith, leb-true n 1000000 t); sum = refl }
+in-range-true (pos n) t = record { sum = refl; most = omega (arith, leb-true n 1000000 t) }
 in-range-true (negsuc n) t =
     let h = leb-true n 999999 (and-eq-true-iff _ _ .0 t .0) in
     let e = le-ltb 1000000 (suc n) (omega arith) in
-    record { most = rw e (omega arith); sum = rw e refl }
+    record { sum = rw e refl; most = rw e (omega arith) }
 
 -- and its decimetres
 pub held-decimetres : (z : ℤ) → Held z → decimetres (biased z) ≡ z

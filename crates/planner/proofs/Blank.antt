@@ -12,9 +12,8 @@ use Rattle.network.specs.Graph.{centres}
 use Rattle.network.specs.Pits.{unique, amid, passesRow, passesColumn, crossing, crossings, pitPoints, pitsOf}
 use Rattle.job.specs.declared.Run.{Run as Read}
 use Rattle.job.specs.Parse.{accepted}
-use Rattle.fields.specs.Bytes.{over}
+use Rattle.fields.specs.Bytes.{over, Wrote}
 use Rattle.plan.specs.Plan.{bookBytes, drawnBytes, planBytes}
-use Rattle.fields.specs.Bytes.{Wrote}
 use Rattle.planner.specs.declared.Answer.the-variants.{Planned}
 use Rattle.planner.specs.Verdict.{judged}
 use Rattle.planner.specs.Call.{planOf, gives, said}

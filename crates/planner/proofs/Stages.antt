@@ -22,8 +22,7 @@ use Rattle.job.specs.Parse.{parse}
 use Rattle.table.specs.Rule.{Beyond}
 use Rattle.table.specs.OnSides.{OnSides}
 use Rattle.table.proofs.Survey.{on-sides, short}
-use Rattle.fields.specs.Bytes.{over}
-use Rattle.fields.specs.Bytes.{Wrote}
+use Rattle.fields.specs.Bytes.{over, Wrote}
 use Rattle.planner.specs.declared.Answer.{Answer}
 use Rattle.planner.specs.declared.Answer.the-variants.{Planned, Refused}
 use Rattle.planner.specs.declared.star.Survey.{Survey}

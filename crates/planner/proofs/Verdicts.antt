@@ -38,7 +38,7 @@ pub enough : (job : List ℕ) (w o : ℕ) → 16384 ≤ w → 40960 ≤ o → ve
 unfolding verdict
 enough job w o h k = rw (le-ltb w 16384 h, le-ltb o 40960 k)
 
--- a job without a star, and one with, has no place to tell: the place is the reader's
+-- 11 has the place 0, as a plan has: so the place of the verdict is the reader's
 pub judged-place : (p : Parsed) → placeSaid (judged p) ≡ placeSaid p
 unfolding judged
 judged-place (refused x) = refl

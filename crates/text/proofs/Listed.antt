@@ -9,8 +9,7 @@ use native.Mathlib.Omega.{arith}
 use lib.ListN.{length, take, drop, set, getD, length-append, length-take, length-drop, length-set}
 use lib.Seq.{take-all, take-append-le, take-append-add, length-take-le, paste, paste-zero, paste-suc}
 use borrow.Rule.Slice.PartMut.{midOf, putMid}
-use Rattle.fields.specs.Bytes.{over}
-use Rattle.fields.specs.Bytes.{Wrote}
+use Rattle.fields.specs.Bytes.{over, Wrote}
 use Rattle.fields.proofs.Over.{wrote-next}
 use Rattle.text.specs.Listed.{Listed}
 

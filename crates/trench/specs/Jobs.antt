@@ -1,4 +1,4 @@
--- What C is told of a job book that is written (document 02, C-15): "the length or minus the number", and the place.
+-- What C is told of a job book that is written (document 02, C-15): its length or minus the refusal number, and the place.
 use Prim.Native.Nat.{ℕ}
 use lib.IntN.{ℤ, pos, negℤ}
 use Rattle.refusal.specs.Refusal.{refusalNumber, refusalPlace}
