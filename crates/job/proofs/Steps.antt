@@ -12,13 +12,12 @@ use Rattle.job.specs.declared.Run.{Run}
 use Rattle.job.specs.declared.Record.{Record}
 use Rattle.job.specs.declared.Record.the-variants as rec
 use Rattle.refusal.specs.declared.Refusal.{Refusal}
-use Rattle.job.specs.declared.Step.{Step}
 use Rattle.job.specs.declared.Step.the-variants.{Next, End, Refuse}
 use Rattle.job.specs.Parse.{follows, coordinatesIn, runStep, endStep, stepBy}
 use Rattle.job.specs.Written.{InRange}
 
--- a step that is no refusal is the other side of a test that refuses
-passed : (b : Bool) (x : Refusal) (y v : Step) → cond b (Refuse x) y ≡ v → (Refuse x ≡ v → ⊥) → (b ≡ false) × (y ≡ v)
+-- what a test comes to, where it does not come to its first side: it failed, and this is its second
+pub passed : {A : Type 0} (b : Bool) (x y v : A) → cond b x y ≡ v → (x ≡ v → ⊥) → (b ≡ false) × (y ≡ v)
 passed true x y v e never = absurd (never e)
 passed false x y v e never = (refl, e)
 

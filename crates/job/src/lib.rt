@@ -10,7 +10,7 @@ ghost use Rattle.job.specs.Fields.{word2, word4, biasedOf};
 ghost use Rattle.job.specs.Records.{runBody, decoded, recordOf};
 ghost use Rattle.job.specs.Branches.{NotRun, NotHead};
 ghost use Rattle.job.specs.Parse.{follows, coordinatesIn, runStep, endStep, stepBy, stepOf, refused, firstBy};
-ghost use Rattle.job.specs.Reading.{jobOf, Reads};
+ghost use Rattle.job.specs.Reading.{answerPlace, jobOf, Reads};
 
 // A run from its first point (x1, y1) to its second (x2, y2). A coordinate is the decimetres plus 1,000,000.
 pub struct Run {
@@ -230,6 +230,16 @@ fn not_head(rec: Record) -> Refusal
         Record::Head(_) => Refusal::Misplaced(0),
         Record::Run(_) => Refusal::Misplaced(0),
         Record::End(_) => Refusal::Misplaced(0),
+    }
+}
+
+// The place of an answer, 0 where the job is accepted.
+pub fn place_of(answer: Answer) -> usize
+    ensures { λ r. ⌜ r ≡ answerPlace answer ⌝ }
+{
+    match answer {
+        Answer::Accepted => 0,
+        Answer::Refused(refusal) => refusal::place(refusal),
     }
 }
 

@@ -16,6 +16,7 @@ use Rattle.job.specs.declared.Answer.{Answer}
 use Rattle.job.specs.declared.Answer.the-variants.{Accepted, Refused}
 use Rattle.job.specs.Written.{bytesOf, Bytes, WellFormed}
 use Rattle.job.specs.Parse.{accepted, parse}
+use Rattle.job.proofs.Steps.{passed}
 use Rattle.job.proofs.Rising.{well-formed-rising, rising-well-formed}
 use Rattle.job.proofs.Written.{written-read}
 use Rattle.job.proofs.Accepted.{accepted-iff, accepted-length, written-length}
@@ -23,7 +24,7 @@ use Rattle.job_writer.specs.declared.Outcome.the-variants as outcome
 use Rattle.job_writer.specs.Listed.{countOf, runsFrom, runsAnswer, roomAnswer, listAnswer}
 use Rattle.job_writer.specs.Call.{bookOf, callBy, callOf}
 use Rattle.job_writer.specs.Books.{listOf, JobBooks}
-use Rattle.job_writer.proofs.Runs.{passed, neither, runs-taken, runs-back, runs-count, list-length}
+use Rattle.job_writer.proofs.Runs.{refused-accepted, neither, runs-taken, runs-back, runs-count, list-length}
 
 -- ---- an accepted list
 
@@ -37,10 +38,10 @@ pub record Listing (list : List ℤ) (room : ℕ) : Type 0 where
 pub accepted-listing : (list : List ℤ) (room : ℕ) → listAnswer list room ≡ Accepted → Listing list room
 unfolding listAnswer
 accepted-listing list room e =
-    let a = passed (not (eqb (length list % 5) 0)) _ _ e in
-    let b = passed (ltb 32 (countOf list)) _ _ (a .1) in
+    let a = passed (not (eqb (length list % 5) 0)) _ _ _ e (refused-accepted _) in
+    let b = passed (ltb 32 (countOf list)) _ _ _ (a .1) (refused-accepted _) in
     let c = neither (runsAnswer list (countOf list) 0) (roomAnswer (countOf list) room) (b .1) in
-    let d = passed (ltb room (8 + 19 * countOf list)) _ _ (c .1) in
+    let d = passed (ltb room (8 + 19 * countOf list)) _ _ _ (c .1) (refused-accepted _) in
     let z = eqb-true (length list % 5) 0 (not-false _ (a .0)) in
     record { whole = omega arith; few = ltb-false _ _ (b .0); runs-accepted = c .0; long = ltb-false _ _ (d .0) }
 

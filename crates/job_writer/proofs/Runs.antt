@@ -3,7 +3,7 @@
 use Prim.Native.Nat.{ℕ, zero, suc, _+_, _-_, _*_, _<_, _≤_}
 use mathlib.Core.Path.{_≡_, refl, sym, ap, ap₂, _∙_}
 use mathlib.Core.List.{List, [], _∷_, _++_, flatMap}
-use mathlib.Core.Bool.{Bool, true, false, cond, not, _&&_, and-eq-true-iff}
+use mathlib.Core.Bool.{true, not, _&&_, and-eq-true-iff}
 use native.Mathlib.Omega.{arith}
 use native.Mathlib.Nat.{add-zero}
 use borrow.Author.Tests.{not-false}
@@ -12,12 +12,12 @@ use lib.IntN.{ℤ, pos, natAbs}
 use lib.ListN.{length, getD, drop}
 use lib.Seq.{drop-cons, drop-drop, getD-drop}
 use Rattle.refusal.specs.declared.Refusal.{Refusal}
-use Rattle.refusal.specs.declared.Refusal.the-variants.{OutOfRange}
 use Rattle.job.specs.declared.Run.{Run}
 use Rattle.job.specs.declared.Answer.{Answer}
 use Rattle.job.specs.declared.Answer.the-variants.{Accepted, Refused}
 use Rattle.job.specs.Fields.{decimetres}
 use Rattle.job.specs.Written.{InRange}
+use Rattle.job.proofs.Steps.{passed}
 use Rattle.job.proofs.Rising.{Rising, none, more}
 use Rattle.job_writer.specs.declared.Listed.{Listed}
 use Rattle.job_writer.specs.Listed.{listedAt, runOf, runsFrom, firstOf, numberBefore, follows, inRange, coordinatesIn, runAnswer, runsAnswer}
@@ -27,13 +27,8 @@ use Rattle.job_writer.proofs.Signed.{Held, in-range-true, held-decimetr
 -- ---- answers
 
 -- a refusal accepts nothing
-refused-accepted : (x : Refusal) → Refused x ≡ Accepted → ⊥
+pub refused-accepted : (x : Refusal) → Refused x ≡ Accepted → ⊥
 refused-accepted x e = let z : _≡_ {A = ℕ} 0 1 = cc in omega arith
-
--- a test that is no refusal was passed
-pub passed : (b : Bool) (x : Refusal) (a : Answer) → cond b (Refused x) a ≡ Accepted → (b ≡ false) × (a ≡ Accepted)
-passed true x a e = absurd (refused-accepted x e)
-passed false x a e = (refl, e)
 
 -- of two answers neither is a refusal
 pub neither : (a b : Answer) → firstOf a b ≡ Accepted → (a ≡ Accepted) × (b ≡ Accepted)
@@ -69,8 +64,8 @@ pub run-passed : (list : List ℤ) (i : ℕ) → runAnswer list i ≡ Accepted
     → (follows (numberBefore list i) (listedAt list i .number) ≡ true) × (coordinatesIn (listedAt list i) ≡ true)
 unfolding runAnswer
 run-passed list i e =
-    let a = passed (not (follows (numberBefore list i) (listedAt list i .number))) _ _ e in
-    let b = passed (not (coordinatesIn (listedAt list i))) (OutOfRange i) Accepted (a .1) in
+    let a = passed (not (follows (numberBefore list i) (listedAt list i .number))) _ _ _ e (refused-accepted _) in
+    let b = passed (not (coordinatesIn (listedAt list i))) _ _ _ (a .1) (refused-accepted _) in
     (not-false _ (a .0), not-false _ (b .0))
 
 run-good : (list : List ℤ) (i last : ℕ) → numberBefore list i ≡ pos last → runAnswer list i ≡ Accepted → Good last (listedAt list i)

@@ -177,8 +177,5 @@ pub fn place_for_map(job: &[u8], room: usize) -> usize
     }
     let reading = job::read(job);
     let answer = reading.answer;
-    match answer {
-        job::Answer::Accepted => 0,
-        job::Answer::Refused(refusal) => refusal::place(refusal),
-    }
+    job::place_of(answer)
 }

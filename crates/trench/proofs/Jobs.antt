@@ -1,7 +1,7 @@
 -- A job book that was written can be planned: given a plan buffer that is long enough, it is refused with 11 or not at all.
 use mathlib.Core.Path.{_≡_, sym, ap, _∙_}
-use mathlib.Core.Bool.{Bool, true, false, cond}
 use mathlib.Core.List.{List}
+use mathlib.Core.Logic.{_⊎_, inl, inr}
 use Prim.Native.Nat.{ℕ, _^_, _<_, _≤_}
 use native.Mathlib.Omega.{arith}
 use lib.IntN.{ℤ}
@@ -14,20 +14,18 @@ use Rattle.job_writer.specs.declared.Outcome.the-variants.{Written}
 use Rattle.job_writer.specs.Call.{callOf}
 use Rattle.job_writer.proofs.Books.{job-books}
 use Rattle.planner.specs.Call.{runsOf}
-use Rattle.planner.specs.Verdict.{isStar, judged, verdict}
+use Rattle.planner.specs.Verdict.{judged, verdict}
+use Rattle.planner.specs.Demands.{IsStar}
 use Rattle.planner.proofs.Verdicts.{enough}
-
--- a well-formed job is refused with 11 alone
-judged-only : (number : ℕ) (runs : List Run) (x : Refusal) → judged (accepted number runs) ≡ refused x → x ≡ NoStar
-unfolding judged
-judged-only number runs x e = go (isStar (runsOf runs)) e
-  where
-    go : (b : Bool) → cond b (accepted number runs) (refused NoStar) ≡ refused x → x ≡ NoStar
-    go true q = absurd (let z : _≡_ {A = ℕ} 0 1 = cc in omega arith)
-    go false q = cc
+use Rattle.planner.proofs.Stars.{judged-refuses}
 
 pub written-planned : (number : ℕ) (list : List ℤ) (out : List ℕ) (n room : ℕ) (x : Refusal) → number < 2 ^ 32
     → callOf number list out .says ≡ Written n → 40960 ≤ room → verdict (take n (callOf number list out .out)) 16384 room ≡ refused x → x ≡ NoStar
 written-planned number list out n room x fits w long e =
     let (runs, read, same) = job-books .read-back number list out n fits w in
-    judged-only number runs x (sym (enough _ 16384 room (omega arith) long ∙ ap judged read) ∙ e)
+    by runs (judged-refuses (accepted number runs) x (sym (enough _ 16384 room (omega arith) long ∙ ap judged read) ∙ e))
+  where
+    by : (runs : List Run)
+        → (accepted number runs ≡ refused x) ⊎ ((m : ℕ) × (rs : List Run) × (accepted number runs ≡ accepted m rs) × (IsStar (runsOf rs) → ⊥) × (x ≡ NoStar)) → x ≡ NoStar
+    by runs (inl q) = absurd (let z : _≡_ {A = ℕ} 0 1 = cc in omega arith)
+    by runs (inr (m, rs, q, s, z)) = z

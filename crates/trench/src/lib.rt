@@ -51,11 +51,7 @@ pub extern "C" fn trench_job(number: u32, runs: &[i32], out: &mut [u8]) -> i32
 pub extern "C" fn trench_job_place(number: u32, runs: &[i32], out: &[u8]) -> usize
     ensures { λ r. ⌜ r ≡ outcomePlace (callOf number (now (runs .entry)) (now (out .entry)) .says) ⌝ }
 {
-    let answer = job_writer::check(runs, out.len());
-    match answer {
-        job::Answer::Accepted => 0,
-        job::Answer::Refused(refusal) => refusal::place(refusal),
-    }
+    job::place_of(job_writer::check(runs, out.len()))
 }
 
 // Reads a plan book: its number of routes, or minus the refusal number.
