@@ -8,10 +8,18 @@
  *               0x52 run      run number (2), first x, first y, second x, second y (4 each)
  *               0x5A end      number of runs (2), from 0 to 32
  *
- *   plan book   0x50 head     job number (4), runs (2), trench (4), saved (4), pits (2), centre's run number (2), 0 with no runs
- *               0x4E route    run number, meets, corners (2 each); one a run, in job order, each followed by its corners
+ *   plan book   0x51 head     job number (4), runs (2), trench (4), saved (4), pits (2), groups (2)
+ *               0x4F route    run number, meets, corners, the run number of the group's centre (2 each); one a run, in job order,
+ *                             each followed by its corners
  *               0x43 corner   x, y (4 each); from the run's first point to its second
  *               0x5A end      total of corners (2)
+ *
+ * Two runs are in one group when a chain of meetings joins them; the centre of a group meets every other run of it, and no two
+ * others meet. Plans written before there were groups have an older head and older routes. They are read, and never written; no
+ * book has both:
+ *
+ *               0x50 head     job number (4), runs (2), trench (4), saved (4), pits (2), centre's run number (2), 0 with no runs
+ *               0x4E route    run number, meets, corners (2 each)
  *
  * Pits are the distinct points at which a route ends or turns, or which one route passes along its row and another along its
  * column. Plans written before crossings counted carry the number of ends and turns alone.
@@ -32,7 +40,7 @@ extern "C" {
 #define TRENCH_PLAN_ROOM 40960
 
 /* No plan is longer than this, in bytes; nor is any plan book that is read. */
-#define TRENCH_LONGEST_PLAN 36822
+#define TRENCH_LONGEST_PLAN 36886
 
 /* No job that is accepted is longer than this, in bytes; so it is room for every job that trench_job writes. */
 #define TRENCH_LONGEST_JOB 616
@@ -47,9 +55,9 @@ extern "C" {
 #define TRENCH_RUN 5
 
 /* The words that trench_figures, trench_places, trench_route and trench_corner write. */
-#define TRENCH_FIGURES 6
+#define TRENCH_FIGURES 7
 #define TRENCH_PLACES 33
-#define TRENCH_ROUTE 3
+#define TRENCH_ROUTE 4
 #define TRENCH_CORNER 2
 
 /* A call of any function needs no more stack than this, in bytes; most of it are the planner's 16,384 work words, and the
@@ -79,9 +87,11 @@ enum trench_refusal {
     TRENCH_RUN_NUMBER = 7,     /* run number 0 or below, above 9,999 or not above the one before */
     TRENCH_COORDINATE = 8,     /* coordinate of a run's point, or of a plan's corner, outside -1,000,000 to 1,000,000 */
     TRENCH_TOO_MANY_RUNS = 9,  /* a 33rd run */
-    TRENCH_NO_STAR = 11,       /* well formed, but no star: no run meets every other while no two others meet */
+    TRENCH_NO_STAR = 11,       /* well formed, but some group is no star: no run of it meets every other while no two others
+                                * meet */
     TRENCH_NOT_WHOLE = 12,     /* no whole records in the order head, routes with their corners, end: a record cut short, of
-                                * unknown kind or out of this order, no end, a byte after it, a 33rd route, a 128th corner */
+                                * unknown kind or out of this order, no end, a byte after it, a 33rd route, a 128th corner, a
+                                * route of the older kind behind a head of the newer, or the other way round */
     TRENCH_NO_TURN = 13,       /* a corner equal to the one before it in its route, or sharing neither its x nor its y, or on
                                 * one row or one column with both of the two before it */
     TRENCH_MISCOUNTED = 14     /* a head's runs, a route's corners or an end's total that differs from what it counts, or a
@@ -94,8 +104,8 @@ enum trench_refusal {
  *
  * Accepted: the plan book fills the first bytes of `out`, as many as the answer says; no later byte is changed. Every route
  * runs from its run's first point to its second along survey lines and is as long as their Manhattan distance; `trench` is
- * the length of the routes' union, and no routes for these runs on the survey lines have a shorter one. A job without runs has
- * a plan of 22 bytes: a head whose figures are all 0, no route, and an end.
+ * the length of the routes' union, and no routes for these runs on the survey lines have a shorter one, all groups together. A job
+ * without runs has no group, and a plan of 22 bytes: a head whose figures are all 0, no route, and an end.
  * Refused: no byte of `out` is changed. The bytes of `job` are never changed.
  *
  * What the caller owes: `job` points to `job_len` bytes and `out` to `out_len` bytes; neither is null, even where its length
@@ -120,7 +130,7 @@ size_t trench_plan_place(const uint8_t *job, size_t job_len, size_t out_len);
  *
  * Accepted: the job book fills the first bytes of `out`, as many as the answer says; no later byte is changed. Read back, it has
  * the job number and the runs that were lent, so trench_plan refuses it with 11 or not at all, given a plan buffer that is long
- * enough; and every well-formed job, star or not, is what this function writes for its number and runs. An empty list is a job
+ * enough; and every well-formed job, stars or not, is what this function writes for its number and runs. An empty list is a job
  * without runs, of 8 bytes.
  * Refused: no byte of `out` is changed. The numbers of `runs` are never changed.
  *
@@ -139,8 +149,8 @@ size_t trench_job_place(uint32_t number, const int32_t *runs, size_t runs_len, c
 /* ---- stored plans ----
  *
  * The functions below read a plan book. Each is lent the book alone, and some a few words for its answer. Every plan that
- * trench_plan wrote is read. Whose job it is, the store knows: trench, saved, pits, centre, run numbers and meets are given as
- * they stand and not judged. A route may have one corner, where its run's two points coincide. Routes and corners are counted
+ * trench_plan wrote is read. Whose job it is, the store knows: trench, saved, pits, groups, run numbers, meets and centres are given
+ * as they stand and not judged. A route may have one corner, where its run's two points coincide. Routes and corners are counted
  * from 0.
  *
  *     uint32_t places[TRENCH_PLACES], route[TRENCH_ROUTE];
@@ -165,8 +175,9 @@ int32_t trench_read(const uint8_t *book, size_t book_len);
 /* The place of the refusal that trench_read tells; 0 where it tells none. */
 size_t trench_read_place(const uint8_t *book, size_t book_len);
 
-/* The figures of a plan's head: job number, runs, trench, saved, pits, centre's run number. Writes them as 6 words and gives 6.
- * A book that is refused, and fewer than 6 words, give 0, and nothing is written. */
+/* The figures of a plan's head: job number, runs, trench, saved, pits, groups, and last the head's kind, 0x51; of an older book the
+ * centre's run number in place of groups, and 0x50. Writes them as 7 words and gives 7. A book that is refused, and fewer than 7
+ * words, give 0, and nothing is written. */
 size_t trench_figures(const uint8_t *book, size_t book_len, uint32_t *figures, size_t figures_len);
 
 /* Where the routes stand in a book: the place of each route's record in order, then that of the end record, then 0 for the
@@ -174,19 +185,20 @@ size_t trench_figures(const uint8_t *book, size_t book_len, uint32_t *figures, s
  * written. The book is read whole, once; with its places in hand the two functions below need not read it again. */
 size_t trench_places(const uint8_t *book, size_t book_len, uint32_t *places, size_t places_len);
 
-/* Route `i` of a plan, with the places that trench_places gave for the same book: run number, meets, number of corners. Writes
- * them as 3 words and gives 3. An index past the last route, a book that was refused, and fewer than 3 words give 0, and
- * nothing is written.
- * Other places are no fault: where place i is below place i + 1, a place past the last being 0, and a whole route record
- * stands there in the book, its three fields are given; else the answer is 0. */
+/* Route `i` of a plan, with the places that trench_places gave for the same book: run number, meets, number of corners, and the run
+ * number of the group's centre, 0 in an older book. Writes them as 4 words and gives 4. An index past the last route, a book that
+ * was refused, and fewer than 4 words give 0, and nothing is written.
+ * Other places are no fault: where place i is below place i + 1, a place past the last being 0, and a whole route record of
+ * either kind stands there in the book, its fields are given; else the answer is 0. */
 size_t trench_route(const uint8_t *book, size_t book_len, const uint32_t *places, size_t places_len, size_t i, uint32_t *route,
                     size_t route_len);
 
 /* Corner `j` of route `i` of a plan, with the places that trench_places gave for the same book: x, y. Writes them as 2 words and
  * gives 2. An index past the last route or past its last corner, a book that was refused, and fewer than 2 words give 0, and
  * nothing is written.
- * Other places are no fault: where j is below 127, and a whole corner record stands in the book 7 + 9 * j bytes behind place i
- * and begins before place i + 1, its two coordinates are given, whatever they are; else the answer is 0. */
+ * Other places are no fault: where j is below 127, and a whole corner record stands in the book 9 + 9 * j bytes behind place i
+ * (7 + 9 * j in a book that does not begin with 0x51) and begins before place i + 1, its two coordinates are given, whatever
+ * they are; else the answer is 0. */
 size_t trench_corner(const uint8_t *book, size_t book_len, const uint32_t *places, size_t places_len, size_t i, size_t j,
                      int32_t *corner, size_t corner_len);
 

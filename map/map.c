@@ -18,7 +18,7 @@
 
 #include "trench.h"
 
-enum { JOB_ROOM = 640, REFUSED = 1, FAILED = 2 };
+enum { JOB_ROOM = 640, REFUSED = 1, FAILED = 2, NEWER_HEAD = 0x51 };
 
 struct point {
     int32_t x, y;
@@ -26,13 +26,25 @@ struct point {
 
 struct route {
     unsigned run, meets, corners;
+    unsigned group; /* its group's index */
+    bool centre;    /* whether it is the centre */
     struct point corner[TRENCH_MOST_CORNERS];
 };
 
+/* The runs that name one centre. */
+struct group {
+    unsigned centre, runs;
+};
+
+/* In a plan of the older kinds there is one centre, which the head names, and nothing is said of groups. */
 struct plan {
     uint32_t job, trench, saved;
-    unsigned runs, pits, centre;
+    unsigned runs, pits;
+    bool older;
+    unsigned last; /* the head's last figure: its number of groups; of an older plan the centre's run number */
     struct route route[TRENCH_MOST_RUNS];
+    unsigned groups;
+    struct group group[TRENCH_MOST_RUNS]; /* in the order of their first routes */
 };
 
 static void fail(const char *name, const char *what)
@@ -70,7 +82,7 @@ static const char *words(int32_t number)
         [TRENCH_RUN_NUMBER] = "run number 0, above 9,999 or not above the one before",
         [TRENCH_COORDINATE] = "coordinate outside -1,000,000 to 1,000,000",
         [TRENCH_TOO_MANY_RUNS] = "a 33rd run",
-        [TRENCH_NO_STAR] = "well formed, but no star",
+        [TRENCH_NO_STAR] = "well formed, but some group is no star",
         [TRENCH_NOT_WHOLE] = "the bytes are not whole records of a plan in order",
         [TRENCH_NO_TURN] = "a corner that stands twice, is not straight from the one before, or is no turn",
         [TRENCH_MISCOUNTED] = "a count that differs from what it counts, or a route with no corner",
@@ -238,6 +250,18 @@ static size_t plan_clicks(const char *number, const char *name, char **points, u
 
 /* ---- the plan ---- */
 
+/* Enters a route into the group of the centre that it names, and gives that group's index. */
+static unsigned enter_group(struct plan *plan, unsigned centre)
+{
+    unsigned g = 0;
+    while (g < plan->groups && plan->group[g].centre != centre)
+        g++;
+    if (g == plan->groups)
+        plan->group[plan->groups++].centre = centre;
+    plan->group[g].runs++;
+    return g;
+}
+
 /* Takes over what the archive reads in a plan book. No route and no corner is given past the last. */
 static void read_plan(const char *name, const uint8_t *book, size_t length, struct plan *plan)
 {
@@ -252,12 +276,15 @@ static void read_plan(const char *name, const uint8_t *book, size_t length, stru
     plan->trench = figures[2];
     plan->saved = figures[3];
     plan->pits = figures[4];
-    plan->centre = figures[5];
+    plan->last = figures[5];
+    plan->older = figures[6] != NEWER_HEAD;
     for (unsigned i = 0; trench_route(book, length, places, TRENCH_PLACES, i, fields, TRENCH_ROUTE); i++) {
         struct route *route = &plan->route[i];
         plan->runs = i + 1;
         route->run = fields[0];
         route->meets = fields[1];
+        route->group = plan->older ? 0 : enter_group(plan, fields[3]);
+        route->centre = route->run == (plan->older ? plan->last : fields[3]);
         for (unsigned k = 0; trench_corner(book, length, places, TRENCH_PLACES, i, k, corner, TRENCH_CORNER); k++) {
             route->corners = k + 1;
             route->corner[k].x = corner[0];
@@ -384,10 +411,18 @@ static void lay_cables(const struct plan *plan, const struct grid *grid, bool ro
 /* Pixels. No decimetre is drawn wider than WIDEST. */
 enum { MARGIN = 70, MAP_WIDTH = 860, MAP_HEIGHT = 560, LEAST_WIDTH = 400, WIDEST = 100, FOOT = 134, REACH = 22 };
 
-/* Where the map stands on the sheet: decimetres to pixels, north up. */
+/* A group in the foot of the sheet. */
+enum { GROUP_WIDTH = 190, GROUP_HEIGHT = 22 };
+
+/* The colours of groups, which take turns. */
+static const char *const colours[] = { "#0b3f91", "#1b7340", "#b3202c", "#6a2c91", "#00727a", "#b0137a" };
+enum { COLOURS = sizeof colours / sizeof *colours };
+
+/* Where the map stands on the sheet: decimetres to pixels, north up. The foot begins below it, with so many groups in a row. */
 struct view {
-    double scale, left, top, width, height;
+    double scale, left, top, width, height, foot;
     int32_t west, north;
+    unsigned abreast;
 };
 
 static double across(const struct view *v, int32_t x)
@@ -400,7 +435,7 @@ static double down(const struct view *v, int32_t y)
     return v->top + ((double)v->north - y) * v->scale;
 }
 
-static struct view fit(const struct grid *grid)
+static struct view fit(const struct plan *plan, const struct grid *grid)
 {
     double wide = (double)last_line(&grid->columns) - first_line(&grid->columns);
     double high = (double)last_line(&grid->rows) - first_line(&grid->rows);
@@ -411,7 +446,9 @@ static struct view fit(const struct grid *grid)
         v.scale = MAP_HEIGHT / high;
     double drawn = wide * v.scale;
     v.width = (drawn < LEAST_WIDTH ? LEAST_WIDTH : drawn) + 2 * MARGIN;
-    v.height = high * v.scale + 2 * MARGIN + FOOT;
+    v.abreast = (unsigned)(v.width - 2 * MARGIN) / GROUP_WIDTH;
+    v.foot = high * v.scale + 2 * MARGIN;
+    v.height = v.foot + FOOT + (plan->groups + v.abreast - 1) / v.abreast * GROUP_HEIGHT;
     v.left = (v.width - drawn) / 2;
     v.top = MARGIN;
     v.west = first_line(&grid->columns);
@@ -419,7 +456,21 @@ static struct view fit(const struct grid *grid)
     return v;
 }
 
-static void draw_style(void)
+/* How centres are drawn: in an older plan the one, else each in its group's colour and stronger than the other routes. */
+static void draw_centre_style(bool older)
+{
+    puts(older ? ".centre { fill: none; stroke: #0b3f91; stroke-width: 2; stroke-linejoin: round }"
+               : ".route { fill: none; stroke: #222; stroke-width: 1.5; stroke-linejoin: round }\n"
+                 ".centre { fill: none; stroke: #222; stroke-width: 3.5; stroke-linejoin: round }");
+}
+
+static void draw_group_styles(void)
+{
+    for (unsigned k = 0; k < COLOURS; k++)
+        printf(".route.g%u, .centre.g%u { stroke: %s }\n.end.g%u, .label.g%u { fill: %s }\n", k, k, colours[k], k, k, colours[k]);
+}
+
+static void draw_style(bool older)
 {
     puts("<style>\n"
          "text { font: 14px sans-serif; fill: #222 }\n"
@@ -427,14 +478,17 @@ static void draw_style(void)
          ".trench, .key { stroke-linecap: round }\n"
          ".one { stroke: #e6c79c; stroke-width: 6 }\n"
          ".two { stroke: #d07f35; stroke-width: 10 }\n"
-         ".more { stroke: #8c4a12; stroke-width: 14 }\n"
-         ".centre { fill: none; stroke: #0b3f91; stroke-width: 2; stroke-linejoin: round }\n"
-         ".pit, .crossing { fill: #fff; stroke: #222; stroke-width: 1.5 }\n"
-         ".end { fill: #222 }\n"
-         ".end.of-centre { fill: #0b3f91 }\n"
-         ".label { font-weight: bold }\n"
-         ".label.of-centre { fill: #0b3f91 }\n"
-         ".scale { fill: none; stroke: #222; stroke-width: 1.5 }\n"
+         ".more { stroke: #8c4a12; stroke-width: 14 }");
+    draw_centre_style(older);
+    puts(".pit, .crossing { fill: #fff; stroke: #222; stroke-width: 1.5 }\n"
+         ".end { fill: #222 }");
+    if (older)
+        puts(".end.of-centre { fill: #0b3f91 }");
+    puts(".label { font-weight: bold }");
+    puts(older ? ".label.of-centre { fill: #0b3f91 }" : ".label.of-centre { text-decoration: underline }");
+    if (!older)
+        draw_group_styles();
+    puts(".scale { fill: none; stroke: #222; stroke-width: 1.5 }\n"
          "</style>");
 }
 
@@ -500,16 +554,34 @@ static void draw_trenches(const struct plan *plan, const struct grid *grid, cons
         draw_line_of_trenches(plan, grid, v, false, a);
 }
 
+static void draw_corners(const struct route *route, const struct view *v)
+{
+    for (unsigned k = 0; k < route->corners; k++)
+        printf("%s%.3f,%.3f", k ? " " : "", across(v, route->corner[k].x), down(v, route->corner[k].y));
+}
+
+/* The centre of an older plan. */
 static void draw_centre(const struct plan *plan, const struct view *v)
+{
+    for (unsigned i = 0; i < plan->runs; i++)
+        if (plan->route[i].centre) {
+            printf("<polyline class=\"centre\" points=\"");
+            draw_corners(&plan->route[i], v);
+            puts("\"/>");
+        }
+}
+
+/* The routes of a plan's groups that are centres, or the others, each in its group's colour. */
+static void draw_routes(const struct plan *plan, const struct view *v, bool centres)
 {
     for (unsigned i = 0; i < plan->runs; i++) {
         const struct route *route = &plan->route[i];
-        if (route->run != plan->centre)
+        if (route->centre != centres)
             continue;
-        printf("<polyline class=\"centre\" points=\"");
-        for (unsigned k = 0; k < route->corners; k++)
-            printf("%s%.3f,%.3f", k ? " " : "", across(v, route->corner[k].x), down(v, route->corner[k].y));
-        puts("\"/>");
+        printf("<polyline class=\"%s g%u\" points=\"", centres ? "centre" : "route", route->group % COLOURS);
+        draw_corners(route, v);
+        printf("\"><title>run %u, %s %u</title></polyline>\n", route->run, centres ? "centre of group" : "group",
+               plan->group[route->group].centre);
     }
 }
 
@@ -650,17 +722,24 @@ static struct point end_of(const struct plan *plan, unsigned n)
     return n % 2 ? last(&plan->route[n / 2]) : first(&plan->route[n / 2]);
 }
 
-/* The numbers of all runs that start or end at p, as text; whether the centre is one of them. */
-static bool name_end(const struct plan *plan, struct point p, char *text, size_t room)
+/* The numbers of all runs that start or end at p, as text; and the classes that tell the group of all of them, if it is one, and
+ * whether a centre is among them. */
+static void name_end(const struct plan *plan, struct point p, char *text, size_t room, char *classes, size_t classes_room)
 {
-    bool centre = false;
+    bool centre = false, alike = !plan->older;
     size_t length = 0;
+    unsigned group = 0;
     for (unsigned i = 0; i < plan->runs; i++)
         if (same(p, first(&plan->route[i])) || same(p, last(&plan->route[i]))) {
+            alike = alike && (length == 0 || plan->route[i].group == group);
+            group = plan->route[i].group;
             length += (size_t)snprintf(text + length, room - length, "%s%u", length ? "," : "", plan->route[i].run);
-            centre = centre || plan->route[i].run == plan->centre;
+            centre = centre || plan->route[i].centre;
         }
-    return centre;
+    if (alike)
+        snprintf(classes, classes_room, "%s g%u", centre ? " of-centre" : "", group % COLOURS);
+    else
+        snprintf(classes, classes_room, "%s", centre ? " of-centre" : "");
 }
 
 /* The runs' points, each with the numbers of all runs that start or end there. */
@@ -674,8 +753,8 @@ static void draw_ends(const struct plan *plan, const struct view *v)
             seen = seen || same(p, end_of(plan, m));
         if (seen)
             continue;
-        char text[6 * TRENCH_MOST_RUNS + 1];
-        const char *who = name_end(plan, p, text, sizeof text) ? " of-centre" : "";
+        char text[6 * TRENCH_MOST_RUNS + 1], who[32];
+        name_end(plan, p, text, sizeof text, who, sizeof who);
         struct area at = label_at(plan, v, &labels, p, (int)strlen(text));
         printf("<circle class=\"end%s\" cx=\"%.3f\" cy=\"%.3f\" r=\"3\"><title>%" PRId32 ",%" PRId32 "</title></circle>\n", who,
                across(v, p.x), down(v, p.y), p.x, p.y);
@@ -716,33 +795,57 @@ static void draw_sample(const char *class, double x, double y)
     printf("<line class=\"%s\" x1=\"%.1f\" y1=\"%.1f\" x2=\"%.1f\" y2=\"%.1f\"/>\n", class, x, y, x + 24, y);
 }
 
-static void draw_key(double x, double y)
+static void draw_key(bool older, double x, double y)
 {
     draw_sample("key one", x, y);
     draw_text(x + 34, y, "one cable");
     draw_sample("key two", x + 120, y);
     draw_text(x + 154, y, "two cables");
-    draw_sample("centre", x + 248, y);
-    draw_text(x + 280, y, "centre");
+    draw_sample(older ? "centre" : "key centre", x + 248, y);
+    draw_text(x + 280, y, older ? "centre" : "a group's centre");
     printf("<circle class=\"key pit\" cx=\"%.1f\" cy=\"%.1f\" r=\"5\"/>\n", x + 12, y + 24);
     draw_text(x + 34, y + 24, "pit at an end or a turn");
     draw_square("key crossing", x + 260, y + 24, "");
     draw_text(x + 280, y + 24, "pit where cables cross");
 }
 
+/* The groups, each with its colour, its centre and how many runs it has. */
+static void draw_groups(const struct plan *plan, const struct view *v, double y)
+{
+    for (unsigned g = 0; g < plan->groups; g++) {
+        char class[24], text[48];
+        double x = MARGIN + g % v->abreast * GROUP_WIDTH, row = y + g / v->abreast * GROUP_HEIGHT;
+        snprintf(class, sizeof class, "key centre g%u", g % COLOURS);
+        snprintf(text, sizeof text, "centre %u: %u run%s", plan->group[g].centre, plan->group[g].runs,
+                 plan->group[g].runs == 1 ? "" : "s");
+        draw_sample(class, x, row);
+        draw_text(x + 34, row, text);
+    }
+}
+
+/* The job, its runs, and the centre or the groups as the plan's head has them. */
+static void draw_head(const struct plan *plan, double y)
+{
+    printf("<text x=\"%d\" y=\"%.1f\">job %" PRIu32 ": ", MARGIN, y, plan->job);
+    if (!plan->runs)
+        printf("no runs");
+    else if (plan->older)
+        printf("%u run%s, centre %u", plan->runs, plan->runs == 1 ? "" : "s", plan->last);
+    else
+        printf("%u run%s, %u group%s", plan->runs, plan->runs == 1 ? "" : "s", plan->last, plan->last == 1 ? "" : "s");
+    puts("</text>");
+}
+
 static void draw_foot(const struct plan *plan, const struct view *v)
 {
-    double y = v->height - FOOT;
-    if (plan->runs)
-        printf("<text x=\"%d\" y=\"%.1f\">job %" PRIu32 ": %u run%s, centre %u</text>\n", MARGIN, y, plan->job, plan->runs,
-               plan->runs == 1 ? "" : "s", plan->centre);
-    else
-        printf("<text x=\"%d\" y=\"%.1f\">job %" PRIu32 ": no runs</text>\n", MARGIN, y, plan->job);
+    double y = v->foot;
+    draw_head(plan, y);
     printf("<text x=\"%d\" y=\"%.1f\">trench %" PRIu32 " dm, saved %" PRIu32 " dm, pits %u</text>\n", MARGIN, y + 22, plan->trench,
            plan->saved, plan->pits);
-    draw_key(MARGIN, y + 46);
+    draw_key(plan->older, MARGIN, y + 46);
     if (plan->runs)
         draw_scale(v, y + 98);
+    draw_groups(plan, v, y + 122);
 }
 
 static void draw(const struct plan *plan)
@@ -750,15 +853,20 @@ static void draw(const struct plan *plan)
     static struct grid survey, grid;
     lay_survey(plan, &survey);
     lay_grid(plan, &grid);
-    struct view v = fit(&grid);
+    struct view v = fit(plan, &grid);
     printf("<svg xmlns=\"http://www.w3.org/2000/svg\" viewBox=\"0 0 %.0f %.0f\" width=\"%.0f\" height=\"%.0f\">\n", v.width, v.height,
            v.width, v.height);
     printf("<title>Trenches of job %" PRIu32 "</title>\n", plan->job);
-    draw_style();
+    draw_style(plan->older);
     puts("<rect width=\"100%\" height=\"100%\" fill=\"#fff\"/>");
     draw_survey_lines(&survey, &grid, &v);
     draw_trenches(plan, &grid, &v);
-    draw_centre(plan, &v);
+    if (plan->older) {
+        draw_centre(plan, &v);
+    } else {
+        draw_routes(plan, &v, false);
+        draw_routes(plan, &v, true);
+    }
     draw_pits(plan, &v);
     draw_crossings(plan, &grid, &v);
     draw_ends(plan, &v);

@@ -1,5 +1,6 @@
-/* A plain C planner by the table algorithm (a table of best sharing over the centre's box, four words a vertex), written to be
- * fast and not to be proved: what the proved planner is timed against, and what stands in for it while it is not built.
+/* A plain C planner by the table algorithm (a table of best sharing over the centre's box, four words a vertex, for one group after
+ * the other), written to be fast and not to be proved: what the proved planner is timed against, and what stands in for it while
+ * it is not built.
  * It is compiled twice: plain, and with TUNED defined. Then lines are found by counting, each run's box is made once, and the
  * first row, the first column and the inner vertices of the table are filled apart, as the proved planner does all this. */
 #include "table.h"
@@ -9,7 +10,7 @@
 
 enum { MOST_RUNS = 32, MOST_LINES = 64, WORDS = 16384, PLAN_ROOM = 40960, FAR = 1000000, TOP_NUMBER = 9999, NOBODY = 255 };
 enum { PLAN_HEAD_LENGTH = 19, BLANK_PLAN = 22 };
-enum { JOB_HEAD = 0x48, RUN = 0x52, END = 0x5A, PLAN_HEAD = 0x50, ROUTE = 0x4E, CORNER = 0x43 };
+enum { JOB_HEAD = 0x48, RUN = 0x52, END = 0x5A, PLAN_HEAD = 0x51, ROUTE = 0x4F, CORNER = 0x43 };
 
 struct run {
     uint32_t number;
@@ -24,7 +25,9 @@ struct job {
     int columns, rows;
     int32_t column_at[MOST_LINES], row_at[MOST_LINES];
     uint32_t meets[MOST_RUNS]; /* the set of runs that each run meets */
-    int centre;
+    int centre_of[MOST_RUNS];  /* the centre of each run's group */
+    int groups;
+    int centre[MOST_RUNS]; /* of each group; the groups stand in the order of their first runs */
 };
 
 /* ---- job book ---- */
@@ -109,7 +112,7 @@ static int read_job(struct job *job, const uint8_t *bytes, size_t length)
     }
 }
 
-/* ---- grid and star ---- */
+/* ---- grid and groups ---- */
 
 #ifdef TUNED
 
@@ -242,20 +245,34 @@ static void compare(struct job *job)
 
 #endif
 
-static bool find_centre(struct job *job)
+/* Whether run c meets nobody that meets another. */
+static bool is_centre(const struct job *job, int c)
 {
+    for (uint32_t rest = job->meets[c]; rest; rest &= rest - 1)
+        if (job->meets[__builtin_ctz(rest)] != 1u << c)
+            return false;
+    return true;
+}
+
+/* Finds the centre of each run's group. The first run of a star is its centre, or meets the centre alone. */
+static bool find_centres(struct job *job)
+{
+    uint32_t seen = 0;
     compare(job);
-    uint32_t everyone = job->count == 32 ? UINT32_MAX : (1u << job->count) - 1;
-    for (int c = 0; c < job->count; c++) {
-        bool star = job->meets[c] == (everyone & ~(1u << c));
-        for (int i = 0; star && i < job->count; i++)
-            star = i == c || job->meets[i] == 1u << c;
-        if (star) {
-            job->centre = c;
-            return true;
-        }
+    job->groups = 0;
+    for (int i = 0; i < job->count; i++) {
+        if (seen >> i & 1)
+            continue;
+        int c = is_centre(job, i) ? i : __builtin_ctz(job->meets[i]);
+        if (c != i && !is_centre(job, c))
+            return false;
+        uint32_t group = job->meets[c] | 1u << c;
+        for (uint32_t rest = group; rest; rest &= rest - 1)
+            job->centre_of[__builtin_ctz(rest)] = c;
+        job->centre[job->groups++] = c;
+        seen |= group;
     }
-    return false;
+    return true;
 }
 
 /* ---- table ---- */
@@ -290,9 +307,10 @@ static void enter(uint32_t bit, int p, int q, int n, uint32_t *on, uint32_t *ove
         over[at] |= bit;
 }
 
-static void make_frame(const struct job *job, struct frame *f)
+/* The frame of a centre, with the leaves of its group. */
+static void make_frame(const struct job *job, int centre, struct frame *f)
 {
-    const struct run *c = &job->runs[job->centre];
+    const struct run *c = &job->runs[centre];
     memset(f, 0, sizeof *f);
     f->column = c->column[0];
     f->row = c->row[0];
@@ -304,9 +322,8 @@ static void make_frame(const struct job *job, struct frame *f)
         f->step_right[a] = span(job->column_at[f->column + a * f->right], job->column_at[f->column + (a + 1) * f->right]);
     for (int b = 0; b + 1 < f->h; b++)
         f->step_up[b] = span(job->row_at[f->row + b * f->up], job->row_at[f->row + (b + 1) * f->up]);
-    for (int i = 0; i < job->count; i++) {
-        if (i == job->centre)
-            continue;
+    for (uint32_t rest = job->meets[centre]; rest; rest &= rest - 1) {
+        int i = __builtin_ctz(rest);
         const struct run *leaf = &job->runs[i];
         int a0 = (leaf->column[0] - f->column) * f->right, a1 = (leaf->column[1] - f->column) * f->right;
         int b0 = (leaf->row[0] - f->row) * f->up, b1 = (leaf->row[1] - f->row) * f->up;
@@ -574,6 +591,7 @@ static void put_route(struct sink *s, int i, const struct path *p)
     size_t count_at = s->length;
     uint32_t before = s->corners;
     put_half(s, 0);
+    put_half(s, s->job->runs[s->job->centre_of[i]].number);
     put_corner(s, p->column[0], p->row[0]);
     for (int k = 1; k + 1 < p->count; k++) {
         int column = p->column[k], row = p->row[k];
@@ -628,32 +646,59 @@ static void leaf_path(const struct job *job, int i, const struct path *centre, c
     go(p, leaf->column[1], leaf->row[1]);
 }
 
-static size_t write_plan(const struct job *job, const struct frame *f, const struct steps *steps, uint32_t saved, uint8_t *out)
-{
-    struct sink s = { .bytes = out, .length = PLAN_HEAD_LENGTH, .job = job };
-    struct path centre = { .count = 0 }, p;
+/* How a job is laid: each centre's route, and what of it each leaf shares. */
+struct layout {
+    struct path centre[MOST_RUNS]; /* by the centre's index */
     struct stretch shared[MOST_RUNS];
-    uint32_t total = 0;
-    for (int i = 0; i < job->count; i++) {
-        const struct run *run = &job->runs[i];
-        shared[i] = (struct stretch){ -1, -1 };
-        total += span(run->x[0], run->x[1]) + span(run->y[0], run->y[1]);
-    }
-    visit(&centre, f->column, f->row);
+};
+
+/* Lays the route of a centre by the steps of its walk. */
+static void lay_centre(struct layout *layout, int c, const struct frame *f, const struct steps *steps)
+{
+    struct path *centre = &layout->centre[c];
+    centre->count = 0;
+    visit(centre, f->column, f->row);
     for (int k = 0; k < steps->count; k++) {
         int up = steps->up[k];
-        visit(&centre, centre.column[k] + (up ? 0 : f->right), centre.row[k] + (up ? f->up : 0));
+        visit(centre, centre->column[k] + (up ? 0 : f->right), centre->row[k] + (up ? f->up : 0));
         if (steps->leaf[k] != NOBODY) {
-            struct stretch *of = &shared[steps->leaf[k]];
+            struct stretch *of = &layout->shared[steps->leaf[k]];
             if (of->first < 0)
                 of->first = k;
             of->last = k + 1;
         }
     }
+}
+
+/* Lays all groups, one after the other in the same words. Gives what is saved. */
+static uint32_t lay_groups(const struct job *job, uint32_t *table, struct layout *layout)
+{
+    struct frame frame;
+    struct steps steps;
+    uint32_t saved = 0;
+    for (int i = 0; i < job->count; i++)
+        layout->shared[i] = (struct stretch){ -1, -1 };
+    for (int g = 0; g < job->groups; g++) {
+        make_frame(job, job->centre[g], &frame);
+        saved += fill(&frame, table) - 1;
+        trace(&frame, table, &steps);
+        lay_centre(layout, job->centre[g], &frame, &steps);
+    }
+    return saved;
+}
+
+static size_t write_plan(const struct job *job, const struct layout *layout, uint32_t saved, uint8_t *out)
+{
+    struct sink s = { .bytes = out, .length = PLAN_HEAD_LENGTH, .job = job };
+    struct path p;
+    uint32_t total = 0;
     for (int i = 0; i < job->count; i++) {
-        if (i != job->centre)
-            leaf_path(job, i, &centre, shared, &p);
-        put_route(&s, i, i == job->centre ? &centre : &p);
+        const struct run *run = &job->runs[i];
+        const struct path *centre = &layout->centre[job->centre_of[i]];
+        total += span(run->x[0], run->x[1]) + span(run->y[0], run->y[1]);
+        if (i != job->centre_of[i])
+            leaf_path(job, i, centre, layout->shared, &p);
+        put_route(&s, i, i == job->centre_of[i] ? centre : &p);
     }
     s.bytes[s.length++] = END;
     put_half(&s, s.corners);
@@ -665,7 +710,7 @@ static size_t write_plan(const struct job *job, const struct frame *f, const str
     put_word(&s, total - saved);
     put_word(&s, saved);
     put_half(&s, count_pits(&s));
-    put_half(&s, job->runs[job->centre].number);
+    put_half(&s, (uint32_t)job->groups);
     return length;
 }
 
@@ -680,34 +725,29 @@ static size_t write_blank(const struct job *job, uint8_t *out)
     return BLANK_PLAN;
 }
 
-/* Reads a job book and makes the centre's frame, which a job without runs has not; 0, or the refusal number. */
-static int survey(struct job *job, struct frame *frame, const uint8_t *bytes, size_t length)
+/* Reads a job book and finds its groups; 0, or the refusal number. */
+static int survey(struct job *job, const uint8_t *bytes, size_t length)
 {
     int refused = read_job(job, bytes, length);
-    if (refused || job->count == 0)
+    if (refused)
         return refused;
     lay_grid(job);
-    if (!find_centre(job))
-        return 11;
-    make_frame(job, frame);
-    return 0;
+    return find_centres(job) ? 0 : 11;
 }
 
 static int32_t plan(const uint8_t *bytes, size_t length, uint32_t *table, uint8_t *out, size_t out_len)
 {
     struct job job;
-    struct frame frame;
-    struct steps steps;
+    struct layout layout;
     if (out_len < PLAN_ROOM)
         return -2;
-    int refused = survey(&job, &frame, bytes, length);
+    int refused = survey(&job, bytes, length);
     if (refused)
         return -refused;
     if (job.count == 0)
         return (int32_t)write_blank(&job, out);
-    uint32_t best = fill(&frame, table);
-    trace(&frame, table, &steps);
-    return (int32_t)write_plan(&job, &frame, &steps, best - 1, out);
+    uint32_t saved = lay_groups(&job, table, &layout);
+    return (int32_t)write_plan(&job, &layout, saved, out);
 }
 
 int32_t table_plan(const uint8_t *job, size_t job_len, uint8_t *out, size_t out_len)
@@ -738,12 +778,21 @@ static void put_lines(struct sink *s, const uint32_t *on, const uint32_t *over, 
     }
 }
 
-size_t table_frame(const uint8_t *job, size_t job_len, uint32_t rounds, uint8_t out[TABLE_FRAME])
+/* Makes the frame of a group; whether the job has it. */
+static bool frame_of(const uint8_t *bytes, size_t length, uint32_t group, struct frame *f)
 {
-    struct job read;
+    struct job job;
+    if (survey(&job, bytes, length) || group >= (uint32_t)job.groups)
+        return false;
+    make_frame(&job, job.centre[group], f);
+    return true;
+}
+
+size_t table_frame(const uint8_t *job, size_t job_len, uint32_t group, uint32_t rounds, uint8_t out[TABLE_FRAME])
+{
     struct frame f;
     struct sink s = { .bytes = out, .length = 0 };
-    if (survey(&read, &f, job, job_len) || read.count == 0)
+    if (!frame_of(job, job_len, group, &f))
         return 0;
     put_word(&s, rounds);
     s.bytes[s.length++] = (uint8_t)(f.w - 1);
@@ -754,13 +803,12 @@ size_t table_frame(const uint8_t *job, size_t job_len, uint32_t rounds, uint8_t 
     return s.length;
 }
 
-uint32_t table_rounds(const uint8_t *job, size_t job_len, uint32_t rounds, uint32_t *sum)
+uint32_t table_rounds(const uint8_t *job, size_t job_len, uint32_t group, uint32_t rounds, uint32_t *sum)
 {
-    struct job read;
     struct frame f;
     struct steps steps = { .count = 0 };
     uint32_t table[WORDS], best = 1, all = 0;
-    if (survey(&read, &f, job, job_len) == 0 && read.count > 0)
+    if (frame_of(job, job_len, group, &f))
         for (uint32_t i = 0; i < rounds; i++) {
             best = fill(&f, table);
             trace(&f, table, &steps);

@@ -10,13 +10,13 @@ int32_t table_plan(const uint8_t *job, size_t job_len, uint8_t *out, size_t out_
 /* The same over 16,384 work words that are set to 0 before the call's work and after it. */
 int32_t table_plan_clearing(const uint8_t *job, size_t job_len, uint8_t *out, size_t out_len);
 
-/* Writes the record that the program crates/table_rounds reads: so many rounds, and the frame of the job's centre. Gives its
- * length, or 0 where the job is refused or has no runs. */
+/* Writes the record that the program crates/table_rounds reads: so many rounds, and the frame of the centre of a group. Groups are
+ * counted from 0 in the order of their first runs. Gives its length, or 0 where the job is refused or has no such group. */
 enum { TABLE_FRAME = 1546 };
-size_t table_frame(const uint8_t *job, size_t job_len, uint32_t rounds, uint8_t out[TABLE_FRAME]);
+size_t table_frame(const uint8_t *job, size_t job_len, uint32_t group, uint32_t rounds, uint8_t out[TABLE_FRAME]);
 
-/* Fills the table of a job and traces the walk in it so many times, over words that are not cleared. Gives what is saved, and
- * in sum a number that needs every walk; both are 0 where the job is refused or has no runs. */
-uint32_t table_rounds(const uint8_t *job, size_t job_len, uint32_t rounds, uint32_t *sum);
+/* Fills the table of a group and traces the walk in it so many times, over words that are not cleared. Gives what is saved, and
+ * in sum a number that needs every walk; both are 0 where the job is refused or has no such group. */
+uint32_t table_rounds(const uint8_t *job, size_t job_len, uint32_t group, uint32_t rounds, uint32_t *sum);
 
 #endif

@@ -9,9 +9,13 @@ pub const RUN: u8 = 0x52;
 /// Kind of an end, in both books.
 pub const END: u8 = 0x5A;
 /// Kind of a plan book's head.
-pub const PLAN_HEAD: u8 = 0x50;
+pub const PLAN_HEAD: u8 = 0x51;
 /// Kind of a route.
-pub const ROUTE: u8 = 0x4E;
+pub const ROUTE: u8 = 0x4F;
+/// Kind of the head of a plan book that was written before there were groups.
+pub const OLDER_HEAD: u8 = 0x50;
+/// Kind of a route in such a book.
+pub const OLDER_ROUTE: u8 = 0x4E;
 /// Kind of a corner.
 pub const CORNER: u8 = 0x43;
 

@@ -1,11 +1,14 @@
-//! Plan books to try a reader with: planned ones, made-up ones that no planner would write, damaged ones, and bytes with no
-//! design.
+//! Plan books to try a reader with, of both sets of kinds: planned ones, made-up ones that no planner would write, damaged ones,
+//! and bytes with no design.
 
-use crate::book::{CORNER, END, PLAN_HEAD, ROUTE};
+use crate::book::{CORNER, END, OLDER_HEAD, OLDER_ROUTE, PLAN_HEAD, ROUTE};
 use crate::book_damage;
 use crate::generate::{self, KINDS};
 use crate::job::{FAR, Job, MOST_RUNS, Point};
-use crate::plan_book::{CORNER_LENGTH, END_LENGTH, HEAD_LENGTH, MOST_CORNERS, PlanBook, ROUTE_LENGTH, RouteRecord};
+use crate::leases::{self, LAYOUTS};
+use crate::plan_book::{
+    BOTH_KINDS, CORNER_LENGTH, HEAD_LENGTH, Kinds, MOST_CORNERS, PlanBook, RouteRecord, record_length,
+};
 use crate::planner;
 use crate::random::Random;
 use crate::refusal::Refusal;
@@ -32,8 +35,8 @@ pub struct BookCase {
     pub what: String,
 }
 
-/// Whole books that every comparison starts with: routes, corners of each, the greatest coordinate, and what stands in every
-/// other field.
+/// Whole books that every comparison starts with, each in both sets of kinds: routes, corners of each, the greatest coordinate, and
+/// what stands in every other field.
 const SPECIAL: [(usize, usize, i32, u32); 7] = [
     (0, 0, 0, 0),
     (0, 0, 0, u32::MAX),
@@ -48,10 +51,16 @@ const SPECIAL: [(usize, usize, i32, u32); 7] = [
 pub fn book_case(seed: u64, n: u64) -> BookCase {
     let anyhow = |what: &str, bytes: Vec<u8>| BookCase { bytes, made: Made::Anyhow, what: what.to_string() };
     let whole = |what: String, book: PlanBook| BookCase { bytes: book.bytes(), made: Made::Whole, what };
-    if let Some(&(routes, corners, far, figure)) = SPECIAL.get(n as usize) {
-        return whole(format!("{routes} routes of {corners} corners"), squares(routes, corners, far, figure));
+    if let Some(&(routes, corners, far, figure)) = SPECIAL.get(n as usize / 2) {
+        let kinds = BOTH_KINDS[n as usize % 2];
+        let what = format!("{routes} routes of {corners} corners, {kinds:?} kinds");
+        return whole(what, squares(kinds, routes, corners, far, figure));
     }
-    let n = n - SPECIAL.len() as u64;
+    let n = n - 2 * SPECIAL.len() as u64;
+    if n < TOO_LONG {
+        return too_long(BOTH_KINDS[n as usize % 2], n / 2 == 0);
+    }
+    let n = n - TOO_LONG;
     if n < 256 {
         return anyhow("one byte", vec![n as u8]);
     }
@@ -61,7 +70,8 @@ pub fn book_case(seed: u64, n: u64) -> BookCase {
         0 | 1 => whole("planned".to_string(), planned(&mut random)),
         2..=6 => {
             let routes = (5 * round + turn as usize) % (MOST_RUNS + 1);
-            whole(format!("made up, {routes} routes"), made_up(&mut random, routes))
+            let kinds = BOTH_KINDS[round % 2];
+            whole(format!("made up, {routes} routes, {kinds:?} kinds"), made_up(&mut random, kinds, routes))
         }
         7..=13 => {
             let way = (round * 7 + turn as usize - 7) % book_damage::WAYS;
@@ -75,22 +85,42 @@ pub fn book_case(seed: u64, n: u64) -> BookCase {
     }
 }
 
+/// The books of `too_long`.
+const TOO_LONG: u64 = 4;
+
+/// A book that is longer than any that is read: by a 33rd route, or by one byte behind the end.
+fn too_long(kinds: Kinds, by_route: bool) -> BookCase {
+    let routes = if by_route { MOST_RUNS + 1 } else { MOST_RUNS };
+    let mut bytes = squares(kinds, routes, MOST_CORNERS, FAR, 1).bytes();
+    let place = if by_route {
+        HEAD_LENGTH + MOST_RUNS * (kinds.route_length() + MOST_CORNERS * CORNER_LENGTH)
+    } else {
+        bytes.len()
+    };
+    if !by_route {
+        bytes.push(CORNER);
+    }
+    let what = format!("longer than any book, {kinds:?} kinds");
+    BookCase { bytes, made: Made::Refused(Refusal { number: 12, place }), what }
+}
+
 /// A whole book with so many routes of so many corners, all of them corners of one square, and with this number in each field
 /// that counts nothing.
-fn squares(routes: usize, corners: usize, far: i32, figure: u32) -> PlanBook {
+fn squares(kinds: Kinds, routes: usize, corners: usize, far: i32, figure: u32) -> PlanBook {
     let side = |k: usize| if k % 4 < 2 { -far } else { far };
     let around: Vec<Point> = (0..corners).map(|k| Point::new(side(k), side(k + 1))).collect();
     let half = figure as u16;
-    let routes: Vec<RouteRecord> = (0..routes).map(|_| route(half, half, around.clone())).collect();
-    let mut book =
-        PlanBook { job: figure, runs: 0, trench: figure, saved: figure, pits: half, centre: half, routes, total: 0 };
+    let centre = if kinds == Kinds::Newer { half } else { 0 };
+    let routes = (0..routes).map(|_| route(half, half, centre, around.clone())).collect();
+    let (job, trench, saved) = (figure, figure, figure);
+    let mut book = PlanBook { kinds, job, runs: 0, trench, saved, pits: half, last: half, routes, total: 0 };
     count(&mut book);
     book
 }
 
-/// A route of these corners, with its count.
-pub fn route(run: u16, meets: u16, corners: Vec<Point>) -> RouteRecord {
-    RouteRecord { run, meets, count: corners.len() as u16, corners }
+/// A route of these corners, with its count. In a book of the older kinds the centre has to be 0.
+pub fn route(run: u16, meets: u16, centre: u16, corners: Vec<Point>) -> RouteRecord {
+    RouteRecord { run, meets, count: corners.len() as u16, centre, corners }
 }
 
 /// Sets every count to what it counts.
@@ -100,27 +130,33 @@ pub fn count(book: &mut PlanBook) {
     book.total = book.corners() as u16;
 }
 
-/// The plan that the independent planner writes for a generated star, or for a blank job.
+/// The plan that the independent planner writes for a generated star or lease, or for a blank job; that of a star or a blank job
+/// often as it was written before there were groups.
 pub fn planned(random: &mut Random) -> PlanBook {
     let kind = *random.pick(&KINDS);
+    let layout = *random.pick(&LAYOUTS);
     let job = match random.below(16) {
         0 => Job { number: random.word() as u32, runs: Vec::new() },
-        1 | 2 => generate::star(random, kind),
+        1 => generate::star(random, kind),
+        2 => leases::lease(random, layout),
+        3..=8 => leases::small_lease(random, layout),
         _ => generate::small_star(random, kind),
     };
-    PlanBook::of(&job, &planner::plan(&job).expect("a star"))
+    let book = PlanBook::of(&job, &planner::plan(&job).expect("every group is a star"));
+    if book.last < 2 && random.once_in(2) { book.as_older() } else { book }
 }
 
 /// A book of so many routes, with right counts and proper corners, that no planner needs to have written: any figures, and routes
 /// that may go anywhere.
-pub fn made_up(random: &mut Random, routes: usize) -> PlanBook {
+pub fn made_up(random: &mut Random, kinds: Kinds, routes: usize) -> PlanBook {
     let mut book = PlanBook {
+        kinds,
         job: any_word(random),
         runs: 0,
         trench: any_word(random),
         saved: any_word(random),
         pits: any_half(random),
-        centre: any_half(random),
+        last: any_half(random),
         routes: Vec::new(),
         total: 0,
     };
@@ -128,7 +164,8 @@ pub fn made_up(random: &mut Random, routes: usize) -> PlanBook {
     for _ in 0..routes {
         let corners = if random.once_in(4) { longest } else { 1 + random.below(longest) };
         let corners = chain(random, corners);
-        book.routes.push(route(any_half(random), any_half(random), corners));
+        let centre = if kinds == Kinds::Newer { any_half(random) } else { 0 };
+        book.routes.push(route(any_half(random), any_half(random), centre, corners));
     }
     count(&mut book);
     book
@@ -171,8 +208,12 @@ pub fn chain(random: &mut Random, corners: usize) -> Vec<Point> {
 /// A whole book of few or many routes.
 pub fn whole_book(random: &mut Random) -> PlanBook {
     let routes = *random.pick(&[1, 1, 2, 3, 5, 9, MOST_RUNS - 1, MOST_RUNS]);
-    if random.once_in(4) { planned(random) } else { made_up(random, routes) }
+    let kinds = *random.pick(&BOTH_KINDS);
+    if random.once_in(4) { planned(random) } else { made_up(random, kinds, routes) }
 }
+
+/// Every kind of a plan book's records, of both sets.
+pub(crate) const ALL_KINDS: [u8; 6] = [PLAN_HEAD, OLDER_HEAD, ROUTE, OLDER_ROUTE, CORNER, END];
 
 /// A book with a byte or two changed, cut out or put in, or a part of it put elsewhere: whatever is due for it.
 fn touched(random: &mut Random) -> Vec<u8> {
@@ -185,8 +226,8 @@ fn touched(random: &mut Random) -> Vec<u8> {
             2 => {
                 bytes.remove(at);
             }
-            3 => bytes.insert(at, *random.pick(&[PLAN_HEAD, ROUTE, CORNER, END, 0, 1, 0xFF])),
-            4 => bytes[at] = *random.pick(&[PLAN_HEAD, ROUTE, CORNER, END]),
+            3 => bytes.insert(at, *random.pick(&[PLAN_HEAD, ROUTE, OLDER_ROUTE, CORNER, END, 0, 1, 0xFF])),
+            4 => bytes[at] = *random.pick(&ALL_KINDS),
             _ => {
                 let end = bytes.len().min(at + 1 + random.below(30));
                 let part = bytes[at..end].to_vec();
@@ -198,29 +239,34 @@ fn touched(random: &mut Random) -> Vec<u8> {
     bytes
 }
 
-/// Whole records, most of them in order, with corners that are near each other. About half of these books are accepted, and a
-/// reader that slips on any rule is likely to differ on some.
+/// Whole records, most of them in order and of one set, with corners that are near each other. About half of these books are
+/// accepted, and a reader that slips on any rule is likely to differ on some.
 fn any_records(random: &mut Random) -> Vec<u8> {
+    let kinds = *random.pick(&BOTH_KINDS);
     let mut bytes = Vec::new();
     let (mut routes, mut corners) = (0_u16, 0_u16);
     let mut count_at = None;
     let mut here = Point::new(0, 0);
     if !random.once_in(30) {
-        head_record(random, &mut bytes);
+        head_record(random, kinds, &mut bytes);
     }
     for _ in 0..random.below(12) {
         let in_order = match count_at {
-            None => ROUTE,
+            None => kinds.route(),
             Some(at) if bytes[at] == 0 => CORNER,
-            Some(_) => *random.pick(&[ROUTE, CORNER, CORNER, CORNER]),
+            Some(_) => *random.pick(&[kinds.route(), CORNER, CORNER, CORNER]),
         };
-        let any = *random.pick(&[PLAN_HEAD, ROUTE, CORNER, END]);
+        let any = *random.pick(&ALL_KINDS);
         match if random.once_in(30) { any } else { in_order } {
-            PLAN_HEAD => head_record(random, &mut bytes),
-            ROUTE => {
+            PLAN_HEAD => head_record(random, Kinds::Newer, &mut bytes),
+            OLDER_HEAD => head_record(random, Kinds::Older, &mut bytes),
+            kind @ (ROUTE | OLDER_ROUTE) => {
                 count_at = Some(bytes.len() + 5);
-                bytes.push(ROUTE);
+                bytes.push(kind);
                 bytes.extend([any_half(random), any_half(random), 0].iter().flat_map(|field| field.to_le_bytes()));
+                if kind == ROUTE {
+                    bytes.extend(any_half(random).to_le_bytes());
+                }
                 routes += 1;
             }
             CORNER => {
@@ -255,8 +301,8 @@ fn near_corner(random: &mut Random, here: Point, along_row: bool) -> Point {
     }
 }
 
-fn head_record(random: &mut Random, bytes: &mut Vec<u8>) {
-    bytes.push(PLAN_HEAD);
+fn head_record(random: &mut Random, kinds: Kinds, bytes: &mut Vec<u8>) {
+    bytes.push(kinds.head());
     bytes.extend(random.bytes(HEAD_LENGTH - 1));
 }
 
@@ -264,20 +310,18 @@ fn head_record(random: &mut Random, bytes: &mut Vec<u8>) {
 fn noise(random: &mut Random) -> Vec<u8> {
     let length = random.below(700);
     let mut bytes = random.bytes(length);
+    let kinds = *random.pick(&BOTH_KINDS);
     let mut place = 0;
     while random.below(50) > 0 && place < length {
-        let kind = if place == 0 { PLAN_HEAD } else { *random.pick(&[ROUTE, CORNER, CORNER, CORNER, END, PLAN_HEAD]) };
+        let route = if random.once_in(20) { kinds.other().route() } else { kinds.route() };
+        let behind = *random.pick(&[route, CORNER, CORNER, CORNER, END, kinds.head()]);
+        let kind = if place == 0 { kinds.head() } else { behind };
         bytes[place] = kind;
         if kind == CORNER && place + CORNER_LENGTH <= length {
             let near = [random.from(0, 1), random.from(0, 1)].map(i32::to_le_bytes).concat();
             bytes[place + 1..place + CORNER_LENGTH].copy_from_slice(&near);
         }
-        place += match kind {
-            PLAN_HEAD => HEAD_LENGTH,
-            ROUTE => ROUTE_LENGTH,
-            CORNER => CORNER_LENGTH,
-            _ => END_LENGTH,
-        };
+        place += record_length(kind).expect("a kind of a plan book");
     }
     bytes
 }

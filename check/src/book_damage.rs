@@ -1,13 +1,13 @@
-//! Plan books that something damaged or cut, each with the refusal that request C-12 gives for it. The refusal follows from how
-//! the damage was done, and not from reading the book: so it is a second opinion on every reader.
+//! Plan books of both sets of kinds that something damaged or cut, each with the refusal that requests C-12 and C-16 give for it.
+//! The refusal follows from how the damage was done, and not from reading the book: so it is a second opinion on every reader.
 
-use crate::book::{CORNER, END, JOB_HEAD, PLAN_HEAD, ROUTE, RUN, job_bytes};
-use crate::book_cases::{chain, count, made_up, route, whole_book};
+use crate::book::{CORNER, END, JOB_HEAD, OLDER_HEAD, OLDER_ROUTE, PLAN_HEAD, ROUTE, RUN, job_bytes};
+use crate::book_cases::{ALL_KINDS, chain, count, made_up, route, whole_book};
 use crate::damage::{Damaged, made, outside, then_anything};
 use crate::generate::{self, KINDS};
 use crate::job::{MOST_RUNS, Point};
 use crate::plan_book::{
-    CORNER_LENGTH, END_LENGTH, HEAD_LENGTH, MOST_CORNERS, PlanBook, ROUTE_LENGTH, RouteRecord, record_length,
+    BOTH_KINDS, CORNER_LENGTH, END_LENGTH, HEAD_LENGTH, Kinds, MOST_CORNERS, PlanBook, RouteRecord, record_length,
 };
 use crate::random::Random;
 
@@ -21,11 +21,11 @@ struct Whole {
 
 impl Whole {
     fn of(book: PlanBook) -> Whole {
-        let mut records = vec![(0, PLAN_HEAD)];
+        let mut records = vec![(0, book.kinds.head())];
         let mut place = HEAD_LENGTH;
         for route in &book.routes {
-            records.push((place, ROUTE));
-            place += ROUTE_LENGTH;
+            records.push((place, book.kinds.route()));
+            place += book.kinds.route_length();
             for _ in &route.corners {
                 records.push((place, CORNER));
                 place += CORNER_LENGTH;
@@ -37,7 +37,7 @@ impl Whole {
 
     fn any(random: &mut Random) -> Whole {
         let book = whole_book(random);
-        Whole::of(if book.routes.is_empty() { made_up(random, 1) } else { book })
+        Whole::of(if book.routes.is_empty() { made_up(random, book.kinds, 1) } else { book })
     }
 
     /// The place of the end record.
@@ -47,12 +47,12 @@ impl Whole {
 
     /// The place of a route's record.
     fn route(&self, i: usize) -> usize {
-        self.records.iter().filter(|record| record.1 == ROUTE).nth(i).expect("a route").0
+        self.records.iter().filter(|record| record.1 == self.book.kinds.route()).nth(i).expect("a route").0
     }
 
     /// The place of a route's corner.
     fn corner(&self, i: usize, j: usize) -> usize {
-        self.route(i) + ROUTE_LENGTH + CORNER_LENGTH * j
+        self.route(i) + self.book.kinds.route_length() + CORNER_LENGTH * j
     }
 
     /// Some record behind the head: its place.
@@ -67,15 +67,15 @@ impl Whole {
 }
 
 /// The number of ways in which `damaged` damages a book.
-pub const WAYS: usize = 32;
+pub const WAYS: usize = 38;
 
 /// A whole plan book damaged in the way of this number, below `WAYS`.
 pub fn damaged(random: &mut Random, way: usize) -> Damaged {
     match way {
-        0 => cut_inside(random, PLAN_HEAD),
-        1 => cut_inside(random, ROUTE),
-        2 => cut_inside(random, CORNER),
-        3 => cut_inside(random, END),
+        0 => cut_inside(random, |kind| [PLAN_HEAD, OLDER_HEAD].contains(&kind)),
+        1 => cut_inside(random, |kind| [ROUTE, OLDER_ROUTE].contains(&kind)),
+        2 => cut_inside(random, |kind| kind == CORNER),
+        3 => cut_inside(random, |kind| kind == END),
         4 => cut_behind_a_record(random),
         5 => no_end(random),
         6 => unknown_kind(random),
@@ -103,14 +103,20 @@ pub fn damaged(random: &mut Random, way: usize) -> Damaged {
         28 => count_and_record(random),
         29 => two_corners(random, false),
         30 => two_corners(random, true),
-        _ => limit_and_coordinate(random),
+        31 => limit_and_coordinate(random),
+        32 => head_of_the_other_set(random),
+        33 => route_of_the_other_set(random),
+        34 => routes_of_the_other_set(random),
+        35 => kind_of_the_other_set(random),
+        36 => second_head_of_the_other_set(random),
+        _ => other_set_and_corner(random),
     }
 }
 
-fn cut_inside(random: &mut Random, kind: u8) -> Damaged {
+fn cut_inside(random: &mut Random, chosen: impl Fn(u8) -> bool) -> Damaged {
     let whole = Whole::any(random);
-    let places: Vec<usize> = whole.records.iter().filter(|record| record.1 == kind).map(|record| record.0).collect();
-    let place = *random.pick(&places);
+    let records: Vec<(usize, u8)> = whole.records.iter().filter(|record| chosen(record.1)).copied().collect();
+    let (place, kind) = *random.pick(&records);
     let length = place + 1 + random.below(record_length(kind).expect("a kind") - 1);
     made("cut inside a record", whole.bytes[..length].to_vec(), 12, place)
 }
@@ -131,7 +137,7 @@ fn no_end(random: &mut Random) -> Damaged {
 
 fn some_unknown_kind(random: &mut Random) -> u8 {
     let near =
-        [0x00, 0xFF, JOB_HEAD, RUN, 0x51, 0x4F, 0x4D, 0x42, 0x44, 0x59, 0x5B, 0x70, 0x6E, 0x63, 0x7A, 0xD0, 0x53];
+        [0x00, 0xFF, JOB_HEAD, RUN, 0x4D, 0x42, 0x44, 0x59, 0x5B, 0x70, 0x71, 0x6E, 0x6F, 0x63, 0x7A, 0xD0, 0xD1, 0x53];
     let kind = if random.once_in(2) { *random.pick(&near) } else { random.word() as u8 };
     if record_length(kind).is_some() { 0 } else { kind }
 }
@@ -153,7 +159,7 @@ fn unknown_kind_last(random: &mut Random) -> Damaged {
 fn no_head(random: &mut Random) -> Damaged {
     let mut whole = Whole::any(random);
     if random.once_in(2) {
-        whole.bytes[0] = *random.pick(&[ROUTE, CORNER, END]);
+        whole.bytes[0] = *random.pick(&[ROUTE, OLDER_ROUTE, CORNER, END]);
         return made("other kind on the head", whole.bytes, 12, 0);
     }
     let place = whole.behind_head(random);
@@ -177,10 +183,10 @@ fn second_head(random: &mut Random) -> Damaged {
 /// A corner straight behind the head, whole or cut.
 fn corner_first(random: &mut Random) -> Damaged {
     let whole = Whole::any(random);
-    let corner = &whole.bytes[HEAD_LENGTH + ROUTE_LENGTH..][..CORNER_LENGTH];
+    let behind_route = HEAD_LENGTH + whole.book.kinds.route_length();
     let changed = match random.below(2) {
-        0 => whole.with(HEAD_LENGTH, corner),
-        _ => [&whole.bytes[..HEAD_LENGTH], &whole.bytes[HEAD_LENGTH + ROUTE_LENGTH..]].concat(),
+        0 => whole.with(HEAD_LENGTH, &whole.bytes[behind_route..][..CORNER_LENGTH]),
+        _ => [&whole.bytes[..HEAD_LENGTH], &whole.bytes[behind_route..]].concat(),
     };
     let from = HEAD_LENGTH + 1 + random.below(CORNER_LENGTH);
     made("corner before any route", then_anything(random, &changed, from), 12, HEAD_LENGTH)
@@ -189,13 +195,14 @@ fn corner_first(random: &mut Random) -> Damaged {
 /// A book of 33 routes or more, each count as it should be; whole or cut behind the 33rd route's kind.
 fn route_33(random: &mut Random) -> Damaged {
     let routes = MOST_RUNS + 1 + random.below(3);
-    let mut book = made_up(random, routes);
+    let kinds = *random.pick(&BOTH_KINDS);
+    let mut book = made_up(random, kinds, routes);
     if random.once_in(2) {
         book.runs = MOST_RUNS as u16;
     }
     let whole = Whole::of(book);
     let place = whole.route(MOST_RUNS);
-    let from = place + 1 + random.below(ROUTE_LENGTH);
+    let from = place + 1 + random.below(kinds.route_length());
     made("33rd route", then_anything(random, &whole.bytes, from), 12, place)
 }
 
@@ -222,7 +229,7 @@ fn after_end(random: &mut Random) -> Damaged {
     let place = whole.bytes.len();
     let mut bytes = whole.bytes;
     match random.below(3) {
-        0 => bytes.push(*random.pick(&[PLAN_HEAD, ROUTE, CORNER, END, 0])),
+        0 => bytes.push(if random.once_in(5) { 0 } else { *random.pick(&ALL_KINDS) }),
         1 => bytes.extend_from_within(..place.min(300)),
         _ => bytes.extend((0..1 + random.below(30)).map(|_| random.word() as u8)),
     }
@@ -468,7 +475,7 @@ fn two_corners(random: &mut Random, turn_first: bool) -> Damaged {
     let (turn, coordinate) = if turn_first { (a, b) } else { (b, a) };
     corners[turn] = corners[turn - 1];
     put_outside(random, &mut corners[coordinate]);
-    book.routes[i] = route(book.routes[i].run, book.routes[i].meets, corners);
+    book.routes[i] = route(book.routes[i].run, book.routes[i].meets, book.routes[i].centre, corners);
     if random.once_in(2) {
         count(&mut book);
     }
@@ -486,12 +493,94 @@ fn limit_and_coordinate(random: &mut Random) -> Damaged {
     let j =
         if random.once_in(2) { random.below(MOST_CORNERS) } else { MOST_CORNERS + random.below(length - MOST_CORNERS) };
     put_outside(random, &mut corners[j]);
-    book.routes[i] = route(book.routes[i].run, book.routes[i].meets, corners);
+    book.routes[i] = route(book.routes[i].run, book.routes[i].meets, book.routes[i].centre, corners);
     count(&mut book);
     let whole = Whole::of(book);
     if j < MOST_CORNERS {
         made("8, then a 128th corner", whole.bytes.clone(), 8, whole.corner(i, j))
     } else {
         made("128th corner, and 8", whole.bytes.clone(), 12, whole.corner(i, MOST_CORNERS))
+    }
+}
+
+/// The bytes of a route's record and of its corners, in a set of kinds.
+fn route_in(kinds: Kinds, record: &RouteRecord) -> Vec<u8> {
+    let centre = if kinds == Kinds::Newer { record.centre } else { 0 };
+    let routes = vec![RouteRecord { centre, ..record.clone() }];
+    let book = PlanBook { kinds, job: 0, runs: 1, trench: 0, saved: 0, pits: 0, last: 0, routes, total: 0 };
+    let bytes = book.bytes();
+    bytes[HEAD_LENGTH..bytes.len() - END_LENGTH].to_vec()
+}
+
+/// The head of the other set before routes that are all of one: the first of them is told.
+fn head_of_the_other_set(random: &mut Random) -> Damaged {
+    let mut whole = Whole::any(random);
+    whole.bytes[0] = whole.book.kinds.other().head();
+    let from = HEAD_LENGTH + 1 + random.below(whole.book.kinds.route_length());
+    made("head of the other set", then_anything(random, &whole.bytes, from), 12, HEAD_LENGTH)
+}
+
+/// One route of the other set, whole in itself, or cut behind its kind.
+fn route_of_the_other_set(random: &mut Random) -> Damaged {
+    let whole = Whole::any(random);
+    let i = random.below(whole.book.routes.len());
+    let (from, to) = (whole.route(i), whole.book.places()[i + 1]);
+    let other = route_in(whole.book.kinds.other(), &whole.book.routes[i]);
+    let changed = [&whole.bytes[..from], &other, &whole.bytes[to..]].concat();
+    let cut = from + 1 + random.below(other.len());
+    made("route of the other set", then_anything(random, &changed, cut), 12, from)
+}
+
+/// A route of the other set put in before another, or as the last; or all routes of the other set from one on.
+fn routes_of_the_other_set(random: &mut Random) -> Damaged {
+    let whole = Whole::any(random);
+    let PlanBook { kinds, routes, .. } = &whole.book;
+    let i = random.below(routes.len() + 1);
+    let place = whole.book.places()[i];
+    let bytes = if i < routes.len() && random.once_in(2) {
+        let others: Vec<u8> = routes[i..].iter().flat_map(|route| route_in(kinds.other(), route)).collect();
+        [&whole.bytes[..place], &others, &whole.bytes[whole.end()..]].concat()
+    } else {
+        whole.with(place, &route_in(kinds.other(), random.pick(routes)))
+    };
+    made("routes of the other set", bytes, 12, place)
+}
+
+/// A route's kind changed to that of the other set, its bytes left as they are.
+fn kind_of_the_other_set(random: &mut Random) -> Damaged {
+    let mut whole = Whole::any(random);
+    let i = random.below(whole.book.routes.len());
+    let place = whole.route(i);
+    whole.bytes[place] = whole.book.kinds.other().route();
+    made("other set's kind on a route", whole.bytes, 12, place)
+}
+
+fn second_head_of_the_other_set(random: &mut Random) -> Damaged {
+    let whole = Whole::any(random);
+    let place = whole.behind_head(random);
+    let mut head = whole.bytes[..HEAD_LENGTH].to_vec();
+    head[0] = whole.book.kinds.other().head();
+    let from = place + 1 + random.below(HEAD_LENGTH);
+    made("second head, of the other set", then_anything(random, &whole.with(place, &head), from), 12, place)
+}
+
+/// A route of the other set, and a corner that is wrong before it or behind it: the first is told.
+fn other_set_and_corner(random: &mut Random) -> Damaged {
+    let mut book = Whole::any(random).book;
+    let again = book.routes[0].clone();
+    if book.routes.len() < MOST_RUNS {
+        book.routes.push(again);
+        count(&mut book);
+    }
+    let (at, (i, j)) = (1 + random.below(book.routes.len() - 1), some_corner(random, &book));
+    put_outside(random, &mut book.routes[i].corners[j]);
+    let whole = Whole::of(book);
+    let (from, to) = (whole.route(at), whole.book.places()[at + 1]);
+    let other = route_in(whole.book.kinds.other(), &whole.book.routes[at]);
+    let bytes = [&whole.bytes[..from], &other, &whole.bytes[to..]].concat();
+    if i < at {
+        made("8, then a route of the other set", bytes, 8, whole.corner(i, j))
+    } else {
+        made("route of the other set, then 8", bytes, 12, from)
     }
 }

@@ -3,9 +3,12 @@
 
 use crate::book::{hex, job_bytes};
 use crate::damage;
+use crate::facts;
 use crate::generate::{self, CROSSINGS, KINDS};
+use crate::graph::Survey;
 use crate::job::Job;
 use crate::judge::Judge;
+use crate::leases::{self, LAYOUTS};
 use crate::line;
 use crate::listing;
 use crate::random::Random;
@@ -48,8 +51,9 @@ pub struct Case {
     pub what: String,
 }
 
-/// Jobs that every comparison starts with: a blank one, the surveyed examples of document 01, and jobs at the limits.
-const SPECIAL: [&str; 21] = [
+/// Jobs that every comparison starts with: a blank one, the surveyed examples of document 01, jobs at the limits, and leases of
+/// several groups, some of which are no stars.
+const SPECIAL: [&str; 36] = [
     "# blank",
     "5,5 5,5",
     "0,0 3,4",
@@ -71,6 +75,21 @@ const SPECIAL: [&str; 21] = [
     "1000000,1000000 1000000,1000000",
     "-1000000,-1000000 -1000000,1000000; -1000000,999999 -1000000,-1000000",
     "0,0 1,0; 0,0 0,1",
+    "0,0 2,2; 0,0 2,2; 2,2 4,4; 2,2 4,4",
+    "0,0 2,2; 2,2 4,4; 0,0 2,2; 2,2 4,4; 4,4 4,4",
+    "0,0 4,4; 1,1 2,2; 10,0 14,4; 11,1 12,2; 30,30 30,30",
+    "10,0 14,4; 11,3 12,2; 13,1 14,0; 0,0 0,4; 0,1 0,9",
+    "0,0 9,0; 0,0 0,9; 0,3 1,9; 4,2 8,6; 5,3 6,4; 5,0 9,0",
+    "0,0 6,6; 3,3 3,3; 0,6 0,6; 9,9 9,9; 7,0 7,0",
+    "0,3 6,3; 3,0 3,6; 1,3 2,3; 3,1 3,2",
+    "0,0 3,4; 0,0 3,4; 0,0 3,4; 10,10 13,14; 10,10 13,14",
+    "10,10 13,14; 10,10 13,14; 0,0 2,0; 1,0 4,0; 3,0 6,0; 5,0 8,0",
+    "0,0 2,0; 1,0 3,0; 5,0 7,0; 6,0 9,0; 2,0 6,0",
+    "0,0 2,0; 5,0 7,0; 1,0 6,0; 9,0 9,9",
+    "5,5 5,5; 5,5 5,5; 5,5 5,5",
+    "4,0 6,2; 0,0 2,2; 4,0 6,2; 0,0 2,2; 4,0 6,2",
+    "0,0 1,1; 1,1 2,2; 2,2 3,3; 3,3 4,4; 1,0 2,1; 2,1 3,2",
+    "-1000000,-1000000 0,0; 0,0 1000000,1000000; -1000000,1000000 0,0; 0,0 1000000,-1000000",
 ];
 
 /// The n-th case of a seed. The first are special ones, the same for every seed.
@@ -90,12 +109,16 @@ pub fn case(seed: u64, n: u64) -> Case {
     let mut random = Random::nth(seed, n);
     let (turn, round) = (n % 20, (n / 20) as usize);
     let kind = KINDS[round % KINDS.len()];
+    let layout = LAYOUTS[(5 * round + turn as usize) % LAYOUTS.len()];
     let whole = |what: String, job: Job| Case { bytes: job_bytes(&job), made_wrong: None, what };
     match turn {
-        0..=8 => whole(format!("star {kind:?}"), generate::star(&mut random, kind)),
-        9 => whole("star of 64 columns and rows".to_string(), generate::full_star(&mut random)),
-        10 => whole(format!("small star {kind:?}"), generate::small_star(&mut random, kind)),
-        11..=13 => whole("near star".to_string(), generate::near_star(&mut random)),
+        0..=3 => whole(format!("star {kind:?}"), generate::star(&mut random, kind)),
+        4..=8 => whole(format!("lease {layout:?}"), leases::lease(&mut random, layout)),
+        9 if round % 2 == 0 => whole("star of 64 columns and rows".to_string(), generate::full_star(&mut random)),
+        9 => whole("lease of 64 columns and rows".to_string(), leases::full_lease(&mut random)),
+        10 if round % 2 == 0 => whole(format!("small star {kind:?}"), generate::small_star(&mut random, kind)),
+        10 => whole(format!("small lease {layout:?}"), leases::small_lease(&mut random, layout)),
+        11..=13 => whole("near star or lease".to_string(), leases::near(&mut random)),
         14 => whole("any runs".to_string(), generate::any(&mut random)),
         15..=17 => {
             let way = (round * 3 + turn as usize - 15) % damage::WAYS;
@@ -164,10 +187,23 @@ fn due(case: &Case, report: &mut Report, faults: &mut Vec<String>) -> Due {
         faults.push(format!("the two readings of document 01 differ: made to be {made}, but read as {read}"));
     }
     match &due {
-        Ok(survey) => *report.accepted.entry(survey.job.runs.len()).or_default() += 1,
-        Err(refused) => *report.refused.entry(refused.number).or_default() += 1,
+        Ok(survey) => {
+            *report.accepted.entry(survey.job.runs.len()).or_default() += 1;
+            *report.groups.entry(survey.graph.groups().len()).or_default() += 1;
+            count_facts(survey, report);
+        }
+        Err(refused) => {
+            *report.refused.entry(refused.number).or_default() += 1;
+            if let Some(job) = refusal::read(&case.bytes).ok().filter(|_| refused.number == 11) {
+                count_facts(&Survey::of(job), report);
+            }
+        }
     }
     due.map(Judge::new)
+}
+
+fn count_facts(survey: &Survey, report: &mut Report) {
+    facts::of(survey).into_iter().for_each(|fact| *report.kinds.entry(fact.to_string()).or_default() += 1);
 }
 
 /// What is wrong with an answer where a plan is due. `plan` is the last plan that was judged for this job, and becomes this one.

@@ -4,6 +4,7 @@
 use crate::book::{END, JOB_HEAD, RUN, job_bytes};
 use crate::generate::{self, KINDS};
 use crate::job::{FAR, Job, MOST_RUNS, Point, Run, TOP_NUMBER};
+use crate::leases::{self, LAYOUTS};
 use crate::random::Random;
 use crate::refusal::{Refusal, record_length};
 
@@ -28,8 +29,7 @@ pub const WAYS: usize = 20;
 
 /// A whole job damaged in the way of this number, below `WAYS`.
 pub fn damaged(random: &mut Random, way: usize) -> Damaged {
-    let kind = *random.pick(&KINDS);
-    let job = if random.once_in(8) { generate::full_star(random) } else { generate::star(random, kind) };
+    let job = if random.once_in(8) { generate::full_star(random) } else { star_or_lease(random) };
     let bytes = job_bytes(&job);
     let runs = job.runs.len();
     let end = offset(runs + 1);
@@ -56,6 +56,11 @@ pub fn damaged(random: &mut Random, way: usize) -> Damaged {
         18 => no_star(random),
         _ => no_end(random, bytes, end),
     }
+}
+
+fn star_or_lease(random: &mut Random) -> Job {
+    let (kind, layout) = (*random.pick(&KINDS), *random.pick(&LAYOUTS));
+    if random.once_in(2) { generate::star(random, kind) } else { leases::lease(random, layout) }
 }
 
 /// The bytes up to a place, and then anything: what comes behind the record at fault does not matter.
@@ -254,25 +259,14 @@ fn other_kind_for_head(random: &mut Random, mut bytes: Vec<u8>) -> Damaged {
     made("other kind on the head", bytes, 5, 0)
 }
 
-/// A well-formed job of at least three runs that all meet, or of two that do not.
+/// A well-formed job of which some group is no star.
 fn no_star(random: &mut Random) -> Damaged {
-    let point = |random: &mut Random| Point::new(random.from(-FAR, FAR - 2), random.from(-FAR, FAR - 2));
-    let p = point(random);
-    let points: Vec<(Point, Point)> = if random.once_in(2) {
-        let q = Point::new(p.x + 1, p.y + random.from(0, 1));
-        (0..3 + random.below(MOST_RUNS - 2)).map(|_| (p, q)).collect()
-    } else {
-        let (corner, far) = (Point::new(p.x + 1, p.y + 1), Point::new(p.x + 2, p.y + 2));
-        vec![(p, corner), (corner, far)]
-    };
-    let runs = points.iter().zip(1..).map(|(&(first, second), number)| Run { number, first, second }).collect();
-    made("no star", job_bytes(&Job { number: random.word() as u32, runs }), 11, 0)
+    made("no star", job_bytes(&leases::broken_lease(random)), 11, 0)
 }
 
 /// A book with one byte changed, cut out or put in: whatever is due for it.
 pub fn touched(random: &mut Random) -> Vec<u8> {
-    let kind = *random.pick(&KINDS);
-    let mut bytes = job_bytes(&generate::star(random, kind));
+    let mut bytes = job_bytes(&star_or_lease(random));
     for _ in 0..1 + random.below(2) {
         let at = random.below(bytes.len());
         match random.below(4) {

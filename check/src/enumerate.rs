@@ -1,5 +1,6 @@
 //! The least plan of a small job by trying every choice of routes. Nothing is used here but the definitions of route and
-//! union (01, "Routes and sharing"), and in `each` that the leaves of a star dig no edge together.
+//! union (01, "Routes and sharing"), and in `each` that the leaves of a star dig no edge together. `all` takes the runs as they
+//! come and knows nothing of groups.
 
 use crate::edges::{EdgeSet, bits};
 use crate::grid::{Grid, Vertex};
@@ -50,7 +51,7 @@ fn extend(grid: &Grid, run: &Run, path: &mut Path, budget: i64, limit: usize, fo
 }
 
 /// The least plan by trying every sequence of routes, one for each run. None where there are more than `limit` sequences.
-/// The job need not be a star.
+/// The runs may meet in any way.
 pub fn all(job: &Job, grid: &Grid, limit: usize) -> Option<Least> {
     let mut choices = Vec::new();
     let mut sequences = 1_usize;
@@ -100,12 +101,12 @@ fn new_edges(route: &EdgeSet, union: &EdgeSet) -> impl Iterator<Item = usize> {
     words.flat_map(|(i, (a, b))| bits(a & !b).map(move |bit| i * 64 + bit))
 }
 
-/// The least plan of a star by trying every route of the centre and, for each, every route of each leaf by itself: two
-/// leaves have no grid edge in both boxes, so no edge is on the routes of both, and each adds to the centre's route what it
+/// The least plan of a star of these runs by trying every route of the centre and, for each, every route of each leaf by itself:
+/// two leaves have no grid edge in both boxes, so no edge is on the routes of both, and each adds to the centre's route what it
 /// does not share with it. None where there are more than `limit` pairs of routes to compare.
-pub fn each(job: &Job, grid: &Grid, centre: usize, limit: usize) -> Option<Least> {
+pub fn each(runs: &[Run], grid: &Grid, centre: usize, limit: usize) -> Option<Least> {
     let mut choices = Vec::new();
-    for run in &job.runs {
+    for run in runs {
         choices.push(routes(grid, run, limit)?);
     }
     let of_leaves: usize = choices.iter().map(Vec::len).sum::<usize>() - choices[centre].len();
@@ -116,8 +117,8 @@ pub fn each(job: &Job, grid: &Grid, centre: usize, limit: usize) -> Option<Least
     let mut best: Option<(i64, Vec<usize>)> = None;
     for (at, route) in dug[centre].iter().enumerate() {
         let mut trench: i64 = route.indexes().map(|index| lengths[index]).sum();
-        let mut chosen = vec![at; job.runs.len()];
-        for leaf in (0..job.runs.len()).filter(|&i| i != centre) {
+        let mut chosen = vec![at; runs.len()];
+        for leaf in (0..runs.len()).filter(|&i| i != centre) {
             let added = dug[leaf].iter().map(|path| new_edges(path, route).map(|index| lengths[index]).sum::<i64>());
             let (least, which) = added.zip(0..).min().expect("every run has a route");
             trench += least;

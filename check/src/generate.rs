@@ -1,5 +1,5 @@
-//! Jobs of every kind, from a seed: stars built leaf by leaf on a small lattice, which is then stretched to other
-//! coordinates; stars in which cables cross; jobs that just fail to be stars; jobs with no design.
+//! Stars of every kind, from a seed: built leaf by leaf on a small lattice, which is then stretched to other coordinates; stars in
+//! which cables cross; and jobs with no design.
 
 use crate::job::{Area, FAR, Job, MOST_RUNS, Point, Run, TOP_NUMBER};
 use crate::random::Random;
@@ -75,7 +75,7 @@ pub const CROSSINGS: [Crossing; 6] =
     [Crossing::Across, Crossing::Pair, Crossing::End, Crossing::Stop, Crossing::Turn, Crossing::Three];
 
 /// Whether the common points of two boxes are more than one, and so a grid edge lies in both.
-fn share(a: &Area, b: &Area) -> bool {
+pub(crate) fn share(a: &Area, b: &Area) -> bool {
     a.common(b).is_some_and(|common| common.low != common.high)
 }
 
@@ -243,7 +243,7 @@ impl Star {
 }
 
 /// A star of this kind with at most so many runs on a lattice of this span (at least 2), its coordinates not yet stretched.
-fn on_lattice(random: &mut Random, kind: Kind, runs: usize, span: i32) -> Vec<Area> {
+pub(crate) fn on_lattice(random: &mut Random, kind: Kind, runs: usize, span: i32) -> Vec<Area> {
     let margin = if random.once_in(3) { 0 } else { random.from(0, span / 3) };
     let (mut p, mut q) = (Point::new(margin, margin), Point::new(span - margin, span - margin));
     if kind == Kind::Around || random.once_in(6) {
@@ -269,6 +269,11 @@ fn on_lattice(random: &mut Random, kind: Kind, runs: usize, span: i32) -> Vec<Ar
     };
     star.grow(random, kind, leaves);
     star.boxes
+}
+
+/// The least and the greatest of some values.
+pub(crate) fn ends(values: impl Iterator<Item = i32> + Clone) -> (i32, i32) {
+    (values.clone().min().expect("a value"), values.max().expect("a value"))
 }
 
 /// The points of a box as a run has them: either slope, from either end.
@@ -320,7 +325,7 @@ fn job_number(random: &mut Random) -> u32 {
 }
 
 /// A job of these runs, numbered.
-fn numbered(random: &mut Random, points: &[(Point, Point)]) -> Job {
+pub(crate) fn numbered(random: &mut Random, points: &[(Point, Point)]) -> Job {
     let numbers = numbers(random, points.len());
     let runs = points.iter().zip(numbers).map(|(&(first, second), number)| Run { number, first, second }).collect();
     Job { number: job_number(random), runs }
@@ -331,6 +336,11 @@ pub fn small_star(random: &mut Random, kind: Kind) -> Job {
     let runs = 2 + random.below(5);
     let span = random.from(2, 9);
     let boxes = on_lattice(random, kind, runs, span);
+    nearby_numbered(random, &boxes)
+}
+
+/// The job of these boxes, each from some end to the other, stretched a little or not and in any order, numbered 1, 2, 3.
+pub(crate) fn nearby_numbered(random: &mut Random, boxes: &[Area]) -> Job {
     let mut points: Vec<(Point, Point)> = boxes.iter().map(|area| as_run(random, area)).collect();
     if random.once_in(2) {
         let reach = random.from(8, 20);
@@ -361,7 +371,7 @@ pub fn crossed_star(random: &mut Random, crossing: Crossing) -> Job {
 }
 
 /// The whole mirrored or not, with x for y or not, and each run from either end.
-fn turned(random: &mut Random, runs: &mut [(Point, Point)], span: i32) {
+pub(crate) fn turned(random: &mut Random, runs: &mut [(Point, Point)], span: i32) {
     let [other_x, other_y, swapped] = [0; 3].map(|_| random.once_in(2));
     let moved = |p: Point| {
         let (x, y) = (if other_x { span - p.x } else { p.x }, if other_y { span - p.y } else { p.y });
@@ -383,6 +393,11 @@ pub fn star(random: &mut Random, kind: Kind) -> Job {
     let runs = if random.once_in(3) { MOST_RUNS } else { 2 + random.below(MOST_RUNS - 1) };
     let span = random.from(2 + runs as i32 / 4, 70);
     let boxes = on_lattice(random, kind, runs, span);
+    anywhere_numbered(random, &boxes)
+}
+
+/// The job of these boxes, each from some end to the other, stretched over any coordinates and numbered in any order.
+pub(crate) fn anywhere_numbered(random: &mut Random, boxes: &[Area]) -> Job {
     let mut points: Vec<(Point, Point)> = boxes.iter().map(|area| as_run(random, area)).collect();
     match random.below(4) {
         0 => {}
@@ -399,9 +414,8 @@ pub fn star(random: &mut Random, kind: Kind) -> Job {
 /// The outermost columns and rows moved to the ends of the range.
 fn to_the_edge(random: &mut Random, runs: &mut [(Point, Point)]) {
     let all: Vec<Point> = runs.iter().flat_map(|&(p, q)| [p, q]).collect();
-    let ends = |values: Vec<i32>| (*values.iter().min().expect("a run"), *values.iter().max().expect("a run"));
-    let (left, right) = ends(all.iter().map(|p| p.x).collect());
-    let (bottom, top) = ends(all.iter().map(|p| p.y).collect());
+    let (left, right) = ends(all.iter().map(|p| p.x));
+    let (bottom, top) = ends(all.iter().map(|p| p.y));
     let both = random.once_in(2);
     let outward = |value: i32, low: i32, high: i32| match value {
         _ if low == high => {
@@ -428,6 +442,23 @@ pub fn full_star(random: &mut Random) -> Job {
 
 /// A star of so many runs on twice as many columns and rows, all of which pass the centre's box.
 pub fn spread_star(random: &mut Random, runs: usize) -> Job {
+    let boxes = spread_boxes(random, runs);
+    spread_numbered(random, &boxes)
+}
+
+/// The job of these boxes, stretched over all coordinates or not.
+pub(crate) fn spread_numbered(random: &mut Random, boxes: &[Area]) -> Job {
+    let mut points: Vec<(Point, Point)> = boxes.iter().map(|area| as_run(random, area)).collect();
+    if random.once_in(2) {
+        stretch(random, &mut points, -FAR, FAR);
+    }
+    random.shuffle(&mut points);
+    numbered(random, &points)
+}
+
+/// The boxes of such a star, the centre's first.
+
+pub(crate) fn spread_boxes(random: &mut Random, runs: usize) -> Vec<Area> {
     let size = 2 * runs as i32 - 1;
     let mut order: Vec<i32> = (0..runs as i32 - 1).collect();
     match random.below(3) {
@@ -441,39 +472,10 @@ pub fn spread_star(random: &mut Random, runs: usize) -> Job {
     };
     let mut boxes = vec![Area::of(Point::new(0, 0), Point::new(size, size))];
     boxes.extend(order.iter().enumerate().map(leaf));
-    let mut points: Vec<(Point, Point)> = boxes.iter().map(|area| as_run(random, area)).collect();
-    if random.once_in(2) {
-        stretch(random, &mut points, -FAR, FAR);
-    }
-    random.shuffle(&mut points);
-    numbered(random, &points)
+    boxes
 }
 
-/// A star in which one thing was changed, so that it often is none: a run doubled, made a point, moved by one decimetre,
-/// replaced by one between points of others, or added anywhere.
-pub fn near_star(random: &mut Random) -> Job {
-    let kind = *random.pick(&KINDS);
-    let job = if random.once_in(2) { small_star(random, kind) } else { star(random, kind) };
-    let mut points: Vec<(Point, Point)> = job.runs.iter().map(|run| (run.first, run.second)).collect();
-    let at = random.below(points.len());
-    let other = random.below(points.len());
-    match random.below(6) {
-        0 => points.push(points[at]),
-        1 => points[at].1 = points[at].0,
-        2 => points.push((points[at].0, points[at].0)),
-        3 => {
-            let moved = points[at].0;
-            let by = |random: &mut Random, value: i32| (value + random.from(-1, 1)).clamp(-FAR, FAR);
-            points[at].0 = Point::new(by(random, moved.x), by(random, moved.y));
-        }
-        4 => points.push((points[at].0, points[other].1)),
-        _ => points[at] = (points[at].1, points[other].0),
-    }
-    points.truncate(MOST_RUNS);
-    numbered(random, &points)
-}
-
-/// Runs with no design, on so few lines that some jobs are stars; or no run.
+/// Runs with no design, on so few lines that some jobs are stars or leases; or no run.
 pub fn any(random: &mut Random) -> Job {
     let count = if random.once_in(4) { random.below(MOST_RUNS + 1) } else { random.below(5) };
     let reach = *random.pick(&[2, 4, 8, 100, FAR]);

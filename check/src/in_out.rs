@@ -11,7 +11,7 @@ use std::cmp::Ordering;
 use crate::edges::EdgeSet;
 use crate::enumerate::{Least, Path};
 use crate::grid::{Grid, Vertex};
-use crate::job::{Area, Job, Point, Run};
+use crate::job::{Area, Point, Run};
 
 /// The copy of a vertex: the vertex itself, or its part for row arcs or for column arcs where it is split.
 #[derive(Clone, Copy, Debug, PartialEq, Eq)]
@@ -79,37 +79,38 @@ impl Part {
     }
 }
 
-/// The least plan of a star with this centre.
-pub fn least(job: &Job, centre: usize) -> Least {
-    let mirrored = job.runs[centre].falls();
-    let upright = if mirrored { mirror(job) } else { job.clone() };
-    let grid = Grid::hanan(&upright);
-    let network = Network::new(&upright, &grid, centre);
+/// The least plan of a star of these runs with this centre, on a grid that has all their lines, and perhaps others.
+pub fn least(runs: &[Run], grid: &Grid, centre: usize) -> Least {
+    let mirrored = runs[centre].falls();
+    let (runs, grid) = if mirrored { mirror(runs, grid) } else { (runs.to_vec(), grid.clone()) };
+    let network = Network::new(&runs, &grid, centre);
     let (saved, arcs) = network.longest();
     let (route, shared) = network.walk(&arcs);
     let route_of = |(i, run): (usize, &Run)| match i == centre {
         true => oriented(&grid, run, route.clone()),
         false => leaf_route(&grid, run, &shared[i]),
     };
-    let routes: Vec<Path> = upright.runs.iter().enumerate().map(route_of).collect();
+    let routes: Vec<Path> = runs.iter().enumerate().map(route_of).collect();
     let union = routes.iter().fold(EdgeSet::none(&grid), |union, path| union.union(&EdgeSet::along(&grid, path)));
     let trench = union.length(&grid);
-    assert_eq!(trench, job.distance() - saved, "the union's length is what the graph says");
+    let distance: i64 = runs.iter().map(Run::distance).sum();
+    assert_eq!(trench, distance - saved, "the union's length is what the graph says");
     let rows = grid.rows.len();
     let back = |v: &Vertex| if mirrored { Vertex { column: v.column, row: rows - 1 - v.row } } else { *v };
     Least { trench, routes: routes.iter().map(|path| path.iter().map(back).collect()).collect() }
 }
 
-/// The job with north and south exchanged. Its grid's rows are the job's in the other order.
-fn mirror(job: &Job) -> Job {
+/// Runs and grid with north and south exchanged: the rows come in the other order.
+fn mirror(runs: &[Run], grid: &Grid) -> (Vec<Run>, Grid) {
     let point = |p: Point| Point::new(p.x, -p.y);
     let run = |r: &Run| Run { number: r.number, first: point(r.first), second: point(r.second) };
-    Job { number: job.number, runs: job.runs.iter().map(run).collect() }
+    let rows = grid.rows.iter().rev().map(|y| -y).collect();
+    (runs.iter().map(run).collect(), Grid { columns: grid.columns.clone(), rows })
 }
 
 /// The graph of a star whose centre does not fall.
 struct Network<'a> {
-    job: &'a Job,
+    runs: &'a [Run],
     grid: &'a Grid,
     /// The centre's box.
     whole: Part,
@@ -118,15 +119,15 @@ struct Network<'a> {
 }
 
 impl<'a> Network<'a> {
-    fn new(job: &'a Job, grid: &'a Grid, centre: usize) -> Network<'a> {
-        let box_of_centre = job.runs[centre].area();
+    fn new(runs: &'a [Run], grid: &'a Grid, centre: usize) -> Network<'a> {
+        let box_of_centre = runs[centre].area();
         let whole = Part::of(grid, &box_of_centre);
-        let parts: Vec<(usize, Part)> = (0..job.runs.len())
+        let parts: Vec<(usize, Part)> = (0..runs.len())
             .filter(|&i| i != centre)
-            .filter_map(|i| Some((i, Part::of(grid, &box_of_centre.common(&job.runs[i].area())?))))
+            .filter_map(|i| Some((i, Part::of(grid, &box_of_centre.common(&runs[i].area())?))))
             .collect();
-        let nodes = grid.columns.len() * grid.rows.len() * 3;
-        let mut network = Network { job, grid, whole, arcs: vec![Vec::new(); nodes] };
+        let nodes = whole.vertices().count() * 3;
+        let mut network = Network { runs, grid, whole, arcs: vec![Vec::new(); nodes] };
         let split = Corners::of(&parts);
         network.add_edges(&parts, &split);
         for &(leaf, part) in parts.iter().filter(|(_, part)| part.has_area()) {
@@ -138,7 +139,8 @@ impl<'a> Network<'a> {
 
     fn index(&self, node: Node) -> usize {
         let (Vertex { column, row }, side) = node;
-        (column * self.grid.rows.len() + row) * 3 + side as usize
+        let Part { low, high } = self.whole;
+        ((column - low.column) * (high.row - low.row + 1) + row - low.row) * 3 + side as usize
     }
 
     fn add(&mut self, arc: Arc) {
@@ -194,7 +196,7 @@ impl<'a> Network<'a> {
         let (p, q) = (self.grid.point(p), self.grid.point(q));
         let (dx, dy) =
             (Point::new(p.x, 0).distance(Point::new(q.x, 0)), Point::new(0, p.y).distance(Point::new(0, q.y)));
-        if self.job.runs[leaf].falls() { dx.max(dy) } else { dx + dy }
+        if self.runs[leaf].falls() { dx.max(dy) } else { dx + dy }
     }
 
     /// At a split corner: the turn that touches the box in this corner alone. It leads from row to column at an upper left
@@ -253,11 +255,11 @@ impl<'a> Network<'a> {
     /// run: all of a passage with a leaf that rises; of one with a leaf that falls the longer direction, which is taken first.
     fn walk(&self, arcs: &[Arc]) -> (Path, Vec<Path>) {
         let mut route = vec![self.whole.low];
-        let mut shared = vec![Path::new(); self.job.runs.len()];
+        let mut shared = vec![Path::new(); self.runs.len()];
         for arc in arcs {
             let (p, q) = (arc.from.0, arc.to.0);
             let column_first = arc.leaf.is_some_and(|leaf| {
-                self.job.runs[leaf].falls() && arc.length == self.sharable(leaf, Vertex { column: q.column, ..p }, q)
+                self.runs[leaf].falls() && arc.length == self.sharable(leaf, Vertex { column: q.column, ..p }, q)
             });
             let bend = if column_first {
                 Vertex { column: p.column, row: q.row }
@@ -269,7 +271,7 @@ impl<'a> Network<'a> {
                 if stretch.is_empty() {
                     stretch.push(p);
                 }
-                let last = if self.job.runs[leaf].falls() { vec![bend] } else { vec![bend, q] };
+                let last = if self.runs[leaf].falls() { vec![bend] } else { vec![bend, q] };
                 last.iter().for_each(|&v| straight(stretch, v));
             }
             straight(&mut route, bend);

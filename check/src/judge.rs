@@ -5,18 +5,19 @@ use crate::edges::EdgeSet;
 use crate::graph::Survey;
 use crate::job::{Point, Run};
 use crate::pits;
-use crate::plan_book::{PlanBook, RouteRecord};
+use crate::plan_book::{Kinds, PlanBook, RouteRecord};
 use crate::planner;
 use crate::refusal;
 
 /// The greatest length of a plan.
-pub const LONGEST_PLAN: usize = 36_822;
+pub const LONGEST_PLAN: usize = 36_886;
 
 /// A job with all that a plan of it is held against, worked out once.
 pub struct Judge {
     survey: Survey,
-    /// The run number of the centre, 0 where there is no run.
-    centre: u16,
+    groups: usize,
+    /// For each run the run number of its group's centre.
+    centres: Vec<u16>,
     least: i64,
 }
 
@@ -29,11 +30,11 @@ pub fn judge(job: &[u8], plan: &[u8]) -> Vec<String> {
 }
 
 impl Judge {
-    /// The judge of plans for this job, which is well formed and a star.
+    /// The judge of plans for this job, which is well formed, and of which every group is a star.
     pub fn new(survey: Survey) -> Judge {
-        let plan = planner::plan_surveyed(&survey).expect("the job is a star");
-        let centre = plan.centre.map_or(0, |centre| survey.job.runs[centre].number);
-        Judge { survey, centre, least: plan.trench }
+        let plan = planner::plan_surveyed(&survey).expect("every group is a star");
+        let centres = plan.centres.iter().map(|&centre| survey.job.runs[centre].number).collect();
+        Judge { survey, groups: plan.groups, centres, least: plan.trench }
     }
 
     /// Everything that is wrong with these bytes as a plan of the job.
@@ -50,6 +51,9 @@ impl Judge {
     }
 
     fn faults_of_book(&self, book: &PlanBook, faults: &mut Vec<String>) {
+        if book.kinds == Kinds::Older {
+            faults.push("the plan has the older kinds".to_string());
+        }
         let mut same = |what: &str, said: i64, due: i64| {
             if said != due {
                 faults.push(format!("{what} is {said} and should be {due}"));
@@ -57,11 +61,17 @@ impl Judge {
         };
         same("the head's job number", book.job.into(), self.survey.job.number.into());
         same("the head's number of runs", book.runs.into(), self.survey.job.runs.len() as i64);
-        same("the head's centre", book.centre.into(), self.centre.into());
+        if book.kinds == Kinds::Newer {
+            same("the head's number of groups", book.last.into(), self.groups as i64);
+        }
         let drawn: Vec<&[Point]> = book.routes.iter().map(|route| &route.corners[..]).collect();
         same("pits", book.pits.into(), pits::of_corners(&drawn).count() as i64);
         let mut union = Some(EdgeSet::none(&self.survey.grid));
         for (i, (run, route)) in self.survey.job.runs.iter().zip(&book.routes).enumerate() {
+            if book.kinds == Kinds::Newer && route.centre != self.centres[i] {
+                let (said, due) = (route.centre, self.centres[i]);
+                faults.push(format!("run {}: its group's centre is {said} and should be {due}", run.number));
+            }
             let dug = self.faults_of_route(run, self.survey.graph.meets(i), route, faults);
             union = union.zip(dug).map(|(union, dug)| union.union(&dug));
         }

@@ -1,6 +1,6 @@
 //! A second reading of documents 000 (geometry), 01 (bytes, limits, order) and 02 (later requests), which shares no code with
-//! the proved planner: an independent planner, a reader and a judge of plans, a writer of jobs, generators of jobs, of plan books
-//! and of lists of runs, and the comparison of a planner, a reader and a writer with all of these.
+//! the proved planner: an independent planner of leases, a reader and a judge of plans, a writer of jobs, generators of jobs, of
+//! plan books and of lists of runs, and the comparison of a planner, a reader and a writer with all of these.
 
 #![forbid(unsafe_code)]
 
@@ -12,13 +12,16 @@ pub mod compare;
 pub mod damage;
 pub mod edges;
 pub mod enumerate;
+pub mod facts;
 pub mod generate;
 pub mod graph;
 pub mod grid;
+pub mod grouped;
 pub mod in_out;
 pub mod job;
 pub mod job_list;
 pub mod judge;
+pub mod leases;
 pub mod line;
 pub mod list_cases;
 pub mod list_line;

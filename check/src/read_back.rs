@@ -1,11 +1,11 @@
 //! The comparison of a reader of plan books, called as C calls `trench_read` and the five functions beside it, with the
 //! independent reading: many books of all kinds, each asked for everything that it holds and for what it does not hold.
 
-use crate::book::{CORNER, ROUTE, hex};
+use crate::book::{CORNER, OLDER_ROUTE, PLAN_HEAD, ROUTE, hex};
 use crate::book_cases::{BookCase, Made, book_case, made_up};
 use crate::job::MOST_RUNS;
 use crate::listing;
-use crate::plan_book::{CORNER_LENGTH, MOST_CORNERS, PlanBook, ROUTE_LENGTH};
+use crate::plan_book::{BOTH_KINDS, CORNER_LENGTH, Kinds, MOST_CORNERS, PlanBook};
 use crate::random::Random;
 use crate::refusal::{Refusal, half, word};
 use crate::report::{Report, Subject};
@@ -27,17 +27,21 @@ pub enum Question<'a> {
     Corner(&'a [u32], usize, usize),
 }
 
+/// The number of words that `trench_figures` writes.
+pub const FIGURES: usize = 7;
 /// The number of words that `trench_places` writes.
 pub const PLACES: usize = MOST_RUNS + 1;
+/// The number of words that `trench_route` writes.
+pub const ROUTE_WORDS: usize = 4;
 
 impl Question<'_> {
     /// The number of words that an answer needs.
     pub fn words(self) -> usize {
         match self {
             Question::Read | Question::ReadPlace => 0,
-            Question::Figures => 6,
+            Question::Figures => FIGURES,
             Question::Places => PLACES,
-            Question::Route(..) => 3,
+            Question::Route(..) => ROUTE_WORDS,
             Question::Corner(..) => 2,
         }
     }
@@ -98,13 +102,14 @@ impl Reading {
 
     fn figures(&self) -> Option<Vec<u32>> {
         let book = self.book.as_ref().ok()?;
-        Some(vec![book.job, book.runs.into(), book.trench, book.saved, book.pits.into(), book.centre.into()])
+        let (pits, last, kind) = (book.pits.into(), book.last.into(), book.kinds.head().into());
+        Some(vec![book.job, book.runs.into(), book.trench, book.saved, pits, last, kind])
     }
 
     /// What is due for a route where the places are the book's own.
     fn route(&self, i: usize) -> Option<Vec<u32>> {
         let route = self.book.as_ref().ok()?.routes.get(i)?;
-        Some(vec![route.run.into(), route.meets.into(), route.count.into()])
+        Some([route.run, route.meets, route.count, route.centre].map(u32::from).to_vec())
     }
 
     /// What is due for a corner where the places are the book's own.
@@ -126,20 +131,28 @@ fn record(bytes: &[u8], kind: u8, length: usize, place: usize) -> Option<&[u8]> 
     bytes.get(place..place.checked_add(length)?).filter(|record| record[0] == kind).map(|record| &record[1..])
 }
 
-/// What is due for a route where any places are lent: the record at the place, if it is one and the next place is greater.
+/// What is due for a route where any places are lent: the record at the place, if it is one of either kind and the next place is
+/// greater. An older one names no centre: 0.
 pub fn route_at(bytes: &[u8], places: &[u32], i: usize) -> Option<Vec<u32>> {
     let (from, _) = span(places, i)?;
-    let body = record(bytes, ROUTE, ROUTE_LENGTH, from)?;
-    Some([0, 2, 4].map(|at| u32::from(half(body, at))).to_vec())
+    let newer = record(bytes, ROUTE, Kinds::Newer.route_length(), from);
+    let older = || record(bytes, OLDER_ROUTE, Kinds::Older.route_length(), from);
+    let fields = |body: &[u8], count: usize| (0..count).map(|k| half(body, 2 * k).into()).collect::<Vec<u32>>();
+    newer.map(|body| fields(body, 4)).or_else(|| older().map(|body| [fields(body, 3), vec![0]].concat()))
 }
 
 /// What is due for a corner where any places are lent: the record as far behind the place as its index says, if it is one and
-/// stands before the next place.
+/// stands before the next place. A route record is as long as the book's first byte says.
 pub fn corner_at(bytes: &[u8], places: &[u32], i: usize, j: usize) -> Option<Vec<u32>> {
     let (from, to) = span(places, i)?;
-    let place = from + ROUTE_LENGTH + CORNER_LENGTH * Some(j).filter(|&j| j < MOST_CORNERS)?;
+    let place = from + route_length(bytes) + CORNER_LENGTH * Some(j).filter(|&j| j < MOST_CORNERS)?;
     let body = record(bytes, CORNER, CORNER_LENGTH, place).filter(|_| place < to)?;
     Some(vec![word(body, 0), word(body, 4)])
+}
+
+/// The length of the route records of bytes that begin so.
+fn route_length(bytes: &[u8]) -> usize {
+    if bytes.first() == Some(&PLAN_HEAD) { Kinds::Newer.route_length() } else { Kinds::Older.route_length() }
 }
 
 /// What a call is to answer, and the words that it is to write.
@@ -218,7 +231,7 @@ impl Trial<'_> {
                     self.ask_all_sizes(Question::Corner(&reading.places, i, j), &Due::Words(reading.corner(i, j)));
                 }
             } else {
-                self.ask(question, &due, 3);
+                self.ask(question, &due, ROUTE_WORDS);
                 for j in [corners, corners + 1, MOST_CORNERS] {
                     self.ask(Question::Corner(&reading.places, i, j), &Due::Words(reading.corner(i, j)), 2);
                 }
@@ -232,7 +245,7 @@ impl Trial<'_> {
             for _ in 0..8 {
                 let i = self.some_index(places.len());
                 let due = Due::Words(route_at(bytes, &places, i));
-                let size = *self.random.pick(&[3, 3, 3, 2, 5]);
+                let size = *self.random.pick(&[4, 4, 4, 3, 6]);
                 self.ask(Question::Route(&places, i), &due, size);
                 let (i, j) = (self.some_index(places.len()), self.some_corner());
                 let due = Due::Words(corner_at(bytes, &places, i, j));
@@ -271,7 +284,8 @@ fn outermost(corners: usize) -> Vec<usize> {
 /// behind them.
 fn wrong_places(random: &mut Random, bytes: &[u8], reading: &Reading) -> Vec<Vec<u32>> {
     let routes = random.below(6);
-    let other = Reading::of(&made_up(random, routes).bytes()).places.to_vec();
+    let kinds = *random.pick(&BOTH_KINDS);
+    let other = Reading::of(&made_up(random, kinds, routes).bytes()).places.to_vec();
     let length = 1 + random.below(40);
     let near: Vec<u32> = (0..length).map(|_| some_place(random, bytes)).collect();
     let rising = {
@@ -293,10 +307,10 @@ fn some_place(random: &mut Random, bytes: &[u8]) -> u32 {
         Vec::new()
     } else {
         let from = random.below(bytes.len());
-        let kinds = (from..bytes.len()).filter(|&place| [ROUTE, CORNER].contains(&bytes[place]));
+        let kinds = (from..bytes.len()).filter(|&place| [ROUTE, OLDER_ROUTE, CORNER].contains(&bytes[place]));
         kinds.take(1).collect()
     };
-    let back = (ROUTE_LENGTH + CORNER_LENGTH * random.below(3)) as u32;
+    let back = (route_length(bytes) + CORNER_LENGTH * random.below(3)) as u32;
     match (random.below(8), found.first()) {
         (0..=2, Some(&place)) => place as u32,
         (3..=4, Some(&place)) => (place as u32).saturating_sub(back),

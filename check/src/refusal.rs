@@ -36,7 +36,7 @@ pub fn words(number: i32) -> &'static str {
         7 => "run number 0, above 9,999 or not above the one before",
         8 => "coordinate outside -1,000,000 to 1,000,000",
         9 => "a 33rd run",
-        11 => "well formed, but no star",
+        11 => "well formed, but some group is no star",
         12 => "the bytes are not whole records of a plan in order",
         13 => "a corner that stands twice, is not straight from the one before, or is no turn",
         14 => "a count that differs from what it counts, or a route with no corner",
@@ -115,7 +115,7 @@ pub fn read(bytes: &[u8]) -> Result<Job, Refusal> {
     }
 }
 
-/// What is due for a job book: the job, well formed and a star, or its refusal among 3 to 9 and 11.
+/// What is due for a job book: the job, well formed and every group a star, or its refusal among 3 to 9 and 11.
 pub fn verdict(bytes: &[u8]) -> Result<Job, Refusal> {
     surveyed(bytes).map(|survey| survey.job)
 }
@@ -123,5 +123,5 @@ pub fn verdict(bytes: &[u8]) -> Result<Job, Refusal> {
 /// The same, with all that was worked out for it.
 pub fn surveyed(bytes: &[u8]) -> Result<Survey, Refusal> {
     let survey = Survey::of(read(bytes)?);
-    if survey.graph.is_star() { Ok(survey) } else { Err(Refusal { number: 11, place: 0 }) }
+    if survey.graph.stars().is_some() { Ok(survey) } else { Err(Refusal { number: 11, place: 0 }) }
 }

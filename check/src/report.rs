@@ -3,10 +3,11 @@
 use std::collections::BTreeMap;
 use std::fmt;
 
+use crate::facts;
 use crate::job::MOST_RUNS;
 use crate::list_cases;
 
-/// Of each kind of list, fewer than so many are too few.
+/// Of each kind of list, and of each fact about jobs, fewer than so many are too few.
 const FEW: usize = 50;
 
 /// What was tried.
@@ -32,8 +33,10 @@ pub struct Report {
     pub accepted: BTreeMap<usize, usize>,
     /// The number of refused books by refusal number.
     pub refused: BTreeMap<i32, usize>,
-    /// The number of lists by what they are called.
+    /// The number of lists by what they are called, or of jobs by the facts that hold of them.
     pub kinds: BTreeMap<String, usize>,
+    /// The number of accepted jobs by their number of groups.
+    pub groups: BTreeMap<usize, usize>,
     /// The number of job books that were written again.
     pub written_again: usize,
     /// The number of bytes of the longest plan, or of the longest job book that was written.
@@ -52,6 +55,7 @@ impl Report {
             accepted: BTreeMap::new(),
             refused: BTreeMap::new(),
             kinds: BTreeMap::new(),
+            groups: BTreeMap::new(),
             written_again: 0,
             longest: 0,
             faults: Vec::new(),
@@ -68,25 +72,33 @@ impl Report {
         other.accepted.into_iter().for_each(|(runs, count)| *self.accepted.entry(runs).or_default() += count);
         other.refused.into_iter().for_each(|(number, count)| *self.refused.entry(number).or_default() += count);
         other.kinds.into_iter().for_each(|(kind, count)| *self.kinds.entry(kind).or_default() += count);
+        other.groups.into_iter().for_each(|(groups, count)| *self.groups.entry(groups).or_default() += count);
         self.faults.extend(other.faults);
     }
 
-    /// What of documents 01 and 02 no book of this report tried: a refusal, or a number of runs or routes from 0 to 32; and the
-    /// kinds of lists of which too few were tried. A report of many books should have nothing here.
+    /// What of documents 01 and 02 no book of this report tried: a refusal, or a number of runs, routes or groups from 0 to 32; and
+    /// the kinds of lists, or the facts about jobs, of which too few were tried. A report of many books should have nothing here.
     pub fn untried(&self) -> Vec<String> {
         let (numbers, what, runs): (&[i32], _, _) = match self.subject {
-            Subject::Jobs => (&[3, 4, 5, 6, 7, 8, 9, 11], "a star", "runs"),
+            Subject::Jobs => (&[3, 4, 5, 6, 7, 8, 9, 11], "a job", "runs"),
             Subject::Plans => (&[8, 12, 13, 14], "a plan", "routes"),
             Subject::Lists => (&[2, 3, 7, 8, 9], "a list", "runs"),
         };
         let refusals = numbers.iter().filter(|number| !self.refused.contains_key(number));
         let counts = (0..=MOST_RUNS).filter(|count| !self.accepted.contains_key(count));
-        let kinds = list_cases::labels()
-            .filter(|&kind| self.subject == Subject::Lists && self.kinds.get(kind).copied().unwrap_or(0) < FEW);
+        let groups = (0..=MOST_RUNS).filter(|n| self.subject == Subject::Jobs && !self.groups.contains_key(n));
+        let kinds: Vec<&str> = match self.subject {
+            Subject::Jobs => facts::ALL.to_vec(),
+            Subject::Plans => Vec::new(),
+            Subject::Lists => list_cases::labels().collect(),
+        };
+        let few = kinds.into_iter().filter(|&kind| self.kinds.get(kind).copied().unwrap_or(0) < FEW);
+        let of_few = if self.subject == Subject::Jobs { "jobs with" } else { "lists" };
         refusals
             .map(|n| format!("refusal {n}"))
             .chain(counts.map(|n| format!("{what} of {n} {runs}")))
-            .chain(kinds.map(|kind| format!("enough lists {kind}")))
+            .chain(groups.map(|n| format!("a job of {n} groups")))
+            .chain(few.map(|kind| format!("enough {of_few} {kind}")))
             .collect()
     }
 }
@@ -106,6 +118,12 @@ impl fmt::Display for Report {
             "{} {books}, {} calls: {accepted} accepted ({blank} blank, {full} of 32 {runs}, longest {longest} {} bytes)",
             self.books, self.calls, self.longest
         )?;
+        if let Some(most) = self.groups.keys().max() {
+            write!(out, "; up to {most} groups")?;
+        }
+        if self.subject == Subject::Jobs {
+            self.kinds.iter().try_for_each(|(fact, count)| write!(out, "; {fact}: {count}"))?;
+        }
         if self.written_again > 0 {
             write!(out, "; {} job books written again", self.written_again)?;
         }

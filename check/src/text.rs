@@ -3,7 +3,7 @@
 
 use std::fmt;
 
-use crate::graph::Survey;
+use crate::graph::{Graph, Survey};
 use crate::job::{FAR, Job, MOST_RUNS, Point, Run, TOP_NUMBER};
 
 /// A typed job, with the line on which each run stands.
@@ -129,14 +129,19 @@ pub fn show(job: &Job) -> String {
     text
 }
 
-/// For a job that is no star (refusal 11): what stands against the run that comes nearest to being its centre.
+/// For a job of which some group is no star (refusal 11): each such group on a line, with what stands against the run that comes
+/// nearest to being its centre.
 pub fn why_no_star(typed: &Typed) -> String {
+    let graph = Survey::of(typed.job.clone()).graph;
+    let groups = graph.groups().into_iter().filter(|group| graph.centre(group).is_none());
+    groups.map(|group| why_group(typed, &graph, &group)).collect::<Vec<_>>().join("\n")
+}
+
+fn why_group(typed: &Typed, graph: &Graph, group: &[usize]) -> String {
     let Typed { job, lines } = typed;
-    let graph = Survey::of(job.clone()).graph;
     let name = |i: usize| format!("run {} (line {})", job.runs[i].number, lines[i]);
-    let all = 0..job.runs.len();
     let hindrances = |c: usize| -> Vec<String> {
-        let others: Vec<usize> = all.clone().filter(|&i| i != c).collect();
+        let others: Vec<usize> = group.iter().copied().filter(|&i| i != c).collect();
         let apart =
             others.iter().filter(|&&i| !graph.meet(c, i)).map(|&i| format!("{} does not meet {}", name(c), name(i)));
         let pairs = others
@@ -145,9 +150,10 @@ pub fn why_no_star(typed: &Typed) -> String {
             .filter(|&(i, j)| i < j && graph.meet(i, j));
         apart.chain(pairs.map(|(i, j)| format!("{} meets {}", name(i), name(j)))).collect()
     };
-    let fewest = all.clone().map(hindrances).zip(all.clone()).min_by_key(|(found, i)| (found.len(), *i));
-    let (found, centre) = fewest.expect("a job has a run");
+    let fewest = group.iter().map(|&c| (hindrances(c), c)).min_by_key(|(found, c)| (found.len(), *c));
+    let (found, centre) = fewest.expect("a group has a run");
     let shown = found.iter().take(3).cloned().collect::<Vec<_>>().join("; ");
     let more = if found.len() > 3 { format!("; and {} more", found.len() - 3) } else { String::new() };
-    format!("with {} as the centre: {shown}{more}", name(centre))
+    let runs: Vec<String> = group.iter().map(|&i| job.runs[i].number.to_string()).collect();
+    format!("the group of runs {} is no star: with {} as the centre: {shown}{more}", runs.join(", "), name(centre))
 }

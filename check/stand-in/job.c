@@ -97,7 +97,7 @@ static bool is_right(const uint8_t *run, uint32_t before)
     return half_at(run + 1) > before && half_at(run + 1) <= TOP_NUMBER;
 }
 
-/* With 2 and 11, and for a job that is planned, the place is 0: whether the runs form a star need not be asked. */
+/* With 2 and 11, and for a job that is planned, the place is 0: whether the groups are stars need not be asked. */
 size_t trench_plan_place(const uint8_t *job, size_t job_len, size_t out_len)
 {
     uint32_t runs = 0, before = 0;

@@ -3,9 +3,13 @@
 use std::collections::BTreeSet;
 
 use trench_check::compare::{Called, Caller, SIZES, case, try_cases, try_listing};
-use trench_check::job::Point;
+use trench_check::enumerate::Path;
+use trench_check::facts;
+use trench_check::graph::{Graph, Survey};
+use trench_check::job::{Job, Point, Run};
 use trench_check::job_list::book_of;
 use trench_check::listing;
+use trench_check::pits;
 use trench_check::plan_book::PlanBook;
 use trench_check::planner;
 use trench_check::read_back::Answered;
@@ -70,7 +74,7 @@ fn right(job: &[u8], out: &mut [u8]) -> i32 {
     }
     match refusal::verdict(job) {
         Err(refused) => -refused.number,
-        Ok(job) => write(&PlanBook::of(&job, &planner::plan(&job).expect("a star")), out),
+        Ok(job) => write(&PlanBook::of(&job, &planner::plan(&job).expect("stars")), out),
     }
 }
 
@@ -168,6 +172,238 @@ fn a_wrong_order_of_refusals_is_noticed() {
     assert_noticed(seven_for_eight, "the answer is -7 and should be -8");
 }
 
+/// A planner that finds the groups by another test of meeting: it refuses where one of these is no star, and else tells the meets,
+/// groups and centres that it found.
+fn grouped_by(meet: fn(&Run, &Run) -> bool) -> impl Fn(&[u8], &mut [u8]) -> i32 {
+    move |job, out| {
+        let Some(read) = refusal::read(job).ok().filter(|_| out.len() >= PLAN_ROOM) else { return right(job, out) };
+        let graph = Graph::by(read.runs.len(), |i, j| meet(&read.runs[i], &read.runs[j]));
+        let Some(centres) = graph.centres() else { return -11 };
+        if refusal::verdict(job).is_err() {
+            return 22;
+        }
+        changed(job, out, |book| {
+            book.last = graph.groups().len() as u16;
+            for (i, route) in book.routes.iter_mut().enumerate() {
+                (route.meets, route.centre) = (graph.meets(i) as u16, read.runs[centres[i]].number);
+            }
+        })
+    }
+}
+
+fn meets_rightly(a: &Run, b: &Run) -> bool {
+    a.area().common(&b.area()).is_some_and(|common| common.low != common.high)
+}
+
+#[test]
+fn wrong_groups_are_noticed() {
+    let corner_joins = |a: &Run, b: &Run| a.area().common(&b.area()).is_some();
+    assert_eq!(report(grouped_by(meets_rightly)).faults, Vec::<String>::new());
+    assert_noticed(grouped_by(corner_joins), "special: 0,0 3,3; 3,3 5,5");
+    assert_noticed(grouped_by(corner_joins), "the head's number of groups is 1 and should be 2");
+    assert_noticed(grouped_by(corner_joins), "the answer is -11, but a plan is due");
+    let area_alone = |a: &Run, b: &Run| {
+        let common = a.area().common(&b.area());
+        common.is_some_and(|common| common.low.x < common.high.x && common.low.y < common.high.y)
+    };
+    assert_noticed(grouped_by(area_alone), "the head's number of groups is 2 and should be 1");
+    let point_meets = |a: &Run, b: &Run| {
+        let inside = |p: &Run, q: &Run| p.first == p.second && q.area().holds(p.first);
+        meets_rightly(a, b) || inside(a, b) || inside(b, a)
+    };
+    assert_noticed(grouped_by(point_meets), "special: 0,0 6,6; 3,3 3,3");
+    assert_noticed(grouped_by(|_, _| false), "should be 1");
+    let one_star_alone = |job: &[u8], out: &mut [u8]| match refusal::verdict(job) {
+        Ok(job) if Survey::of(job.clone()).graph.groups().len() > 1 && out.len() >= PLAN_ROOM => -11,
+        _ => right(job, out),
+    };
+    assert_noticed(one_star_alone, "the answer is -11, but a plan is due");
+}
+
+/// Accepts every well-formed job of which some group is chosen, and writes nothing where it should have refused.
+fn accepting(choice: fn(&Graph) -> bool) -> impl Fn(&[u8], &mut [u8]) -> i32 {
+    move |job, out| match (right(job, out), refusal::read(job)) {
+        (-11, Ok(read)) if choice(&Survey::of(read.clone()).graph) => 22,
+        (answer, _) => answer,
+    }
+}
+
+#[test]
+fn groups_that_are_no_stars_are_noticed() {
+    let some = |graph: &Graph| graph.groups().iter().any(|group| graph.centre(group).is_some());
+    assert_noticed(accepting(some), "the answer is 22 and should be -11");
+    let first = |graph: &Graph| graph.centre(&graph.groups()[0]).is_some();
+    assert_noticed(accepting(first), "the answer is 22 and should be -11");
+    let last = |graph: &Graph| graph.groups().last().is_some_and(|group| graph.centre(group).is_some());
+    assert_noticed(accepting(last), "the answer is 22 and should be -11");
+    let some_run_meets_all =
+        |graph: &Graph| graph.groups().iter().all(|group| group.iter().any(|&c| graph.meets(c) + 1 == group.len()));
+    assert_noticed(accepting(some_run_meets_all), "the answer is 22 and should be -11");
+}
+
+/// The groups of a job, by the indexes of their runs.
+fn groups_of(job: &[u8]) -> Vec<Vec<usize>> {
+    Survey::of(refusal::read(job).expect("a job")).graph.groups()
+}
+
+#[test]
+fn wrong_centres_and_counts_of_groups_are_noticed() {
+    let centres = |change: fn(&Job, &[Vec<usize>], usize, u16) -> u16| {
+        move |job: &[u8], out: &mut [u8]| {
+            let read = refusal::read(job);
+            changed(job, out, |book| {
+                let (read, groups) = (read.expect("a job"), groups_of(job));
+                for (i, route) in book.routes.iter_mut().enumerate() {
+                    route.centre = change(&read, &groups, i, route.centre);
+                }
+            })
+        }
+    };
+    let told = "its group's centre is ";
+    assert_noticed(
+        centres(|job, _, _, due| job.runs.iter().position(|run| run.number == due).expect("a run") as u16),
+        told,
+    );
+    assert_noticed(centres(|job, _, i, _| job.runs[i].number), told);
+    assert_noticed(centres(|job, _, _, _| job.runs[0].number), told);
+    let of_another = |job: &Job, groups: &[Vec<usize>], i: usize, due: u16| {
+        groups.iter().find(|group| !group.contains(&i)).map_or(due, |group| job.runs[group[0]].number)
+    };
+    assert_noticed(centres(of_another), told);
+    let first_of_group = |job: &Job, groups: &[Vec<usize>], i: usize, _: u16| {
+        job.runs[groups.iter().find(|group| group.contains(&i)).expect("a group")[0]].number
+    };
+    assert_noticed(centres(first_of_group), told);
+    let higher_of_two = |job: &Job, groups: &[Vec<usize>], i: usize, due: u16| {
+        let group = groups.iter().find(|group| group.contains(&i)).expect("a group");
+        if group.len() == 2 { job.runs[group[1]].number } else { due }
+    };
+    assert_noticed(centres(higher_of_two), told);
+    let none_alone = |_: &Job, groups: &[Vec<usize>], i: usize, due: u16| {
+        if groups.contains(&vec![i]) { 0 } else { due }
+    };
+    assert_noticed(centres(none_alone), told);
+    let counted = |change: fn(&[Vec<usize>], &PlanBook) -> usize| {
+        move |job: &[u8], out: &mut [u8]| changed(job, out, |book| book.last = change(&groups_of(job), book) as u16)
+    };
+    let told = "the head's number of groups is ";
+    assert_noticed(counted(|groups, _| groups.len() + 1), told);
+    assert_noticed(counted(|_, book| book.routes.len()), told);
+    assert_noticed(counted(|groups, _| groups.len().min(1)), told);
+    assert_noticed(counted(|groups, _| groups.len().max(1)), told);
+    assert_noticed(counted(|groups, _| groups.iter().filter(|group| group.len() > 1).count()), told);
+    assert_noticed(
+        counted(|_, book| {
+            book.routes.iter().filter(|route| route.corners.len() > 1 && route.centre == route.run).count()
+        }),
+        told,
+    );
+    assert_noticed(counted(|_, book| book.routes.first().map_or(0, |route| route.centre.into())), told);
+}
+
+#[test]
+fn wrong_kinds_are_noticed() {
+    let older = |job: &[u8], out: &mut [u8]| changed(job, out, |book| *book = book.clone().as_older());
+    assert_noticed(older, "the plan has the older kinds");
+    let older_star = |job: &[u8], out: &mut [u8]| {
+        changed(job, out, |book| {
+            if book.last == 1 {
+                *book = book.clone().as_older();
+            }
+        })
+    };
+    assert_noticed(older_star, "the plan has the older kinds");
+    let blank_older = |job: &[u8], out: &mut [u8]| match right(job, out) {
+        22 => {
+            out[0] = 0x50;
+            22
+        }
+        answer => answer,
+    };
+    assert_noticed(blank_older, "the plan has the older kinds");
+    let mixed = |newer_head: bool| {
+        move |job: &[u8], out: &mut [u8]| {
+            let answer = right(job, out);
+            if answer < 30 {
+                return answer;
+            }
+            let newer = PlanBook::read(&out[..answer as usize]).expect("a plan was written");
+            let older = newer.clone().as_older();
+            let (front, back) = if newer_head { (&newer, &older) } else { (&older, &newer) };
+            let at = front.routes.len() - 1;
+            let bytes = [&front.bytes()[..front.places()[at]], &back.bytes()[back.places()[at]..]].concat();
+            out[..bytes.len()].copy_from_slice(&bytes);
+            bytes.len() as i32
+        }
+    };
+    assert_noticed(mixed(true), "refused 12 at 19");
+    assert_noticed(mixed(false), "refused 12 at 19");
+    assert_noticed(mixed(true), "job 22: special: 0,0 2,2; 2,2 4,4; 0,0 2,2; 2,2 4,4; 4,4 4,4");
+}
+
+/// The last group laid with one bend a run, and all figures measured on that.
+fn last_group_bent(job: &[u8], out: &mut [u8]) -> i32 {
+    changed(job, out, |book| {
+        let survey = Survey::of(refusal::read(job).expect("a job"));
+        let groups = survey.graph.groups();
+        let Some(group) = groups.last().filter(|_| groups.len() > 1) else { return };
+        for &i in group {
+            let Run { first, second, .. } = survey.job.runs[i];
+            let mut corners = vec![first, Point::new(second.x, first.y), second];
+            corners.dedup();
+            if corners.len() == 3 || corners[0] != corners[corners.len() - 1] {
+                book.routes[i].corners = corners;
+            }
+        }
+        let path = |corners: &[Point]| survey.grid.path(corners).expect("a path of the grid");
+        let drawn: Vec<Path> = book.routes.iter().map(|route| path(&route.corners)).collect();
+        *book = PlanBook::of(&survey.job, &planner::drawn(&survey, &drawn).expect("stars"));
+    })
+}
+
+#[test]
+fn a_group_that_is_not_least_is_noticed() {
+    assert_noticed(last_group_bent, " would do");
+}
+
+/// Figures that were worked out group by group where they belong to all: a pit that two groups share counts once, and where two
+/// groups cross there is one.
+#[test]
+fn figures_by_group_are_noticed() {
+    let summed = |job: &[u8], out: &mut [u8]| {
+        changed(job, out, |book| {
+            let pits = groups_of(job).into_iter().map(|group| {
+                let corners: Vec<&[Point]> = group.iter().map(|&i| &book.routes[i].corners[..]).collect();
+                pits::of_corners(&corners).count()
+            });
+            book.pits = pits.sum::<usize>() as u16;
+        })
+    };
+    assert_noticed(summed, "special: 0,0 3,3; 3,3 5,5");
+    assert_noticed(summed, "special: 0,2 4,2; 2,0 2,4");
+    let first_alone = |job: &[u8], out: &mut [u8]| {
+        changed(job, out, |book| {
+            if let Some(group) = groups_of(job).first() {
+                let all =
+                    |i: usize| book.routes[i].corners.windows(2).map(|pair| pair[0].distance(pair[1])).sum::<i64>();
+                book.trench = group.iter().map(|&i| all(i)).sum::<i64>() as u32;
+            }
+        })
+    };
+    assert_noticed(first_alone, "but the routes dig");
+}
+
+#[test]
+fn what_was_not_tried_is_told() {
+    let untried = Report::of(Subject::Jobs).untried();
+    assert_eq!(untried.len(), 8 + 33 + 33 + facts::ALL.len());
+    assert_eq!(
+        [&untried[8][..], &untried[41], &untried[74]],
+        ["a job of 0 runs", "a job of 0 groups", "enough jobs with several groups"]
+    );
+    assert_eq!(try_cases(&mut Plain(|_: &[u8], _: &mut [u8]| -2), 11, 0, 8_000, 1).untried(), Vec::<String>::new());
+}
+
 /// The place of the independent reading.
 fn right_place(job: &[u8], out_len: usize) -> usize {
     if out_len < PLAN_ROOM {
@@ -242,7 +478,7 @@ fn wrong_books_of_jobs_are_noticed() {
 fn right_listing(job: &[u8]) -> String {
     match refusal::verdict(job) {
         Err(refused) => listing::of_refusal(refused),
-        Ok(job) => listing::of_plan(&PlanBook::of(&job, &planner::plan(&job).expect("a star"))),
+        Ok(job) => listing::of_plan(&PlanBook::of(&job, &planner::plan(&job).expect("stars"))),
     }
 }
 
@@ -266,4 +502,7 @@ fn listings_are_held_to_what_is_due() {
     assert_noticed("and should be `refused 11 at 0`", &|text| text.trim_end().to_string());
     assert_noticed("no listing of a plan", &|text| text.replace("trench ", "trench  "));
     assert_noticed("but the routes dig", &|text| text.replace("trench 100 ", "trench 101 "));
+    assert_noticed("the head's number of groups is ", &|text| text.replace(" groups 2 ", " groups 1 "));
+    assert_noticed("its group's centre is ", &|text| text.replace(" centre 2 ", " centre 1 "));
+    assert_noticed("no listing of a plan", &|text| text.replace(" groups ", " centre "));
 }

@@ -10,6 +10,7 @@ use trench_check::graph::Survey;
 use trench_check::grid::Vertex;
 use trench_check::job::{Job, Point};
 use trench_check::judge::judge;
+use trench_check::leases::{self, LAYOUTS};
 use trench_check::line;
 use trench_check::plan_book::PlanBook;
 use trench_check::planner;
@@ -20,7 +21,7 @@ fn job(words: &str) -> Job {
 }
 
 fn book(job: &Job) -> PlanBook {
-    PlanBook::of(job, &planner::plan(job).expect("a star"))
+    PlanBook::of(job, &planner::plan(job).expect("every group is a star"))
 }
 
 /// Document 01's example; its least plan is the only one.
@@ -48,7 +49,86 @@ fn right_plans_pass() {
         let job = generate::star(&mut Random::nth(77, n as u64), kind);
         let faults = judge(&job_bytes(&job), &book(&job).bytes());
         assert!(faults.is_empty(), "{kind:?} {}: {faults:?}", line::show(&job));
+        let layout = LAYOUTS[n % LAYOUTS.len()];
+        let job = leases::lease(&mut Random::nth(81, n as u64), layout);
+        let faults = judge(&job_bytes(&job), &book(&job).bytes());
+        assert!(faults.is_empty(), "{layout:?} {}: {faults:?}", line::show(&job));
     }
+}
+
+/// Groups 1 (runs 1, 2), 3 and 4 (runs 4, 5); group 3 is a point, and the other two touch in 6,6.
+fn lease() -> (Job, PlanBook) {
+    let job = job("0,0 6,6; 0,2 4,2; 9,1 9,1; 6,6 9,9; 6,8 9,8");
+    let book = book(&job);
+    (job, book)
+}
+
+fn verdict_on_lease(spoil: impl FnOnce(&mut PlanBook)) -> String {
+    let (job, mut book) = lease();
+    spoil(&mut book);
+    judge(&job_bytes(&job), &book.bytes()).join("\n")
+}
+
+#[test]
+fn groups_and_centres_are_judged() {
+    let (_, right) = lease();
+    assert_eq!((right.last, right.trench, right.saved), (3, 18, 7));
+    assert_eq!(right.routes.iter().map(|route| route.centre).collect::<Vec<_>>(), [1, 1, 3, 4, 4]);
+    assert_eq!(verdict_on_lease(|_| {}), "");
+    for groups in [0, 1, 2, 4, 5] {
+        let told = format!("the head's number of groups is {groups} and should be 3");
+        assert_eq!(verdict_on_lease(|book| book.last = groups), told);
+    }
+    for (i, centre) in [(0, 2), (1, 2), (1, 4), (2, 0), (2, 1), (3, 1), (4, 5), (4, 1)] {
+        let (run, due) = (i + 1, right.routes[i].centre);
+        let told = format!("run {run}: its group's centre is {centre} and should be {due}");
+        assert_eq!(verdict_on_lease(|book| book.routes[i].centre = centre), told);
+    }
+    let one_star = verdict_on_lease(|book| {
+        book.last = 1;
+        book.routes.iter_mut().for_each(|route| route.centre = 1);
+    });
+    assert_eq!(one_star.lines().count(), 4, "groups, and the centres of three runs: {one_star}");
+}
+
+/// A plan of the older kinds is read, and is not right, also where all runs are one star.
+#[test]
+fn older_kinds_are_not_right() {
+    let (star, plan) = example();
+    assert_eq!(judge(&job_bytes(&star), &plan.as_older().bytes()), ["the plan has the older kinds"]);
+    let (job, plan) = lease();
+    assert_eq!(judge(&job_bytes(&job), &plan.as_older().bytes()), ["the plan has the older kinds"]);
+    let blank = Job { number: 7, runs: Vec::new() };
+    assert_eq!(judge(&job_bytes(&blank), &book(&blank).as_older().bytes()), ["the plan has the older kinds"]);
+}
+
+/// Where one group of several digs too much, that is told of the whole.
+#[test]
+fn one_group_not_least_is_caught() {
+    let (mut caught, mut tried) = (0, 0);
+    for n in 0..600 {
+        let job = leases::lease(&mut Random::nth(82, n), LAYOUTS[n as usize % LAYOUTS.len()]);
+        let survey = Survey::of(job.clone());
+        let groups = survey.graph.groups();
+        let (best, bent) = (book(&job), one_bend_each(&job));
+        for group in groups.iter().filter(|_| groups.len() > 1) {
+            let mut mixed = best.clone();
+            group.iter().for_each(|&i| mixed.routes[i] = bent.routes[i].clone());
+            let drawn: Vec<Path> =
+                mixed.routes.iter().map(|route| survey.grid.path(&route.corners).expect("a path")).collect();
+            let measured = PlanBook::of(&job, &planner::drawn(&survey, &drawn).expect("stars"));
+            let faults = judge(&job_bytes(&job), &measured.bytes());
+            tried += 1;
+            if measured.trench > best.trench {
+                caught += 1;
+                let told = format!("the routes dig {}, but {} would do", measured.trench, best.trench);
+                assert_eq!(faults, [told], "{}", line::show(&job));
+            } else {
+                assert_eq!(faults, Vec::<String>::new(), "{}", line::show(&job));
+            }
+        }
+    }
+    assert!(caught > 300 && tried > 2 * caught, "{caught} of {tried}");
 }
 
 #[test]
@@ -75,7 +155,7 @@ fn a_blank_job_has_one_plan() {
     let job = Job { number: 7, runs: Vec::new() };
     let bytes = job_bytes(&job);
     let plan = book(&job);
-    assert_eq!(plan.bytes(), [0x50, 7, 0, 0, 0, 0, 0, 0, 0, 0, 0, 0, 0, 0, 0, 0, 0, 0, 0, 0x5A, 0, 0]);
+    assert_eq!(plan.bytes(), [0x51, 7, 0, 0, 0, 0, 0, 0, 0, 0, 0, 0, 0, 0, 0, 0, 0, 0, 0, 0x5A, 0, 0]);
     assert_eq!(judge(&bytes, &plan.bytes()), Vec::<String>::new());
     for at in 0..22 {
         let mut changed = plan.bytes();
@@ -95,7 +175,8 @@ fn figures_off_by_one_are_caught() {
     assert_says(&verdict_on(|book| book.trench -= 1), "trench is 99, but the routes dig 100");
     assert_says(&verdict_on(|book| book.saved += 1), "saved is 41, but the routes save 40");
     assert_says(&verdict_on(|book| book.pits -= 1), "pits is 5 and should be 6");
-    assert_says(&verdict_on(|book| book.centre += 1), "the head's centre is 2 and should be 1");
+    assert_says(&verdict_on(|book| book.last += 1), "the head's number of groups is 2 and should be 1");
+    assert_says(&verdict_on(|book| book.routes[2].centre = 3), "run 3: its group's centre is 3 and should be 1");
     assert_says(&verdict_on(|book| book.job ^= 1), "the head's job number is 6 and should be 7");
     assert_says(&verdict_on(|book| book.routes[1].meets += 1), "run 2: meets is 2 and should be 1");
     assert_says(&verdict_on(|book| book.routes[1].run = 9), "run 2: its route record names run 9");
@@ -153,13 +234,13 @@ fn moved_corners_are_caught() {
 fn books_that_are_not_read_are_caught() {
     let refused = |spoil: &dyn Fn(&mut PlanBook)| verdict_on(spoil);
     assert_eq!(refused(&|book| book.runs += 1), "refused 14 at 0");
-    assert_eq!(refused(&|book| book.total += 1), "refused 14 at 112");
-    assert_eq!(refused(&|book| book.routes[1].count += 1), "refused 14 at 62");
-    assert_eq!(refused(&|book| book.routes[1].corners.clear()), "refused 14 at 62");
-    assert_eq!(refused(&|book| book.routes[0].corners[1] = Point::new(0, 11)), "refused 13 at 44");
-    assert_eq!(refused(&|book| book.routes[1].corners.insert(1, Point::new(20, 10))), "refused 13 at 87");
-    assert_eq!(refused(&|book| book.routes[1].corners.push(Point::new(40, 10))), "refused 13 at 87");
-    assert_eq!(refused(&|book| book.routes[2].corners[1].y = 1_000_001), "refused 8 at 103");
+    assert_eq!(refused(&|book| book.total += 1), "refused 14 at 118");
+    assert_eq!(refused(&|book| book.routes[1].count += 1), "refused 14 at 64");
+    assert_eq!(refused(&|book| book.routes[1].corners.clear()), "refused 14 at 64");
+    assert_eq!(refused(&|book| book.routes[0].corners[1] = Point::new(0, 11)), "refused 13 at 46");
+    assert_eq!(refused(&|book| book.routes[1].corners.insert(1, Point::new(20, 10))), "refused 13 at 91");
+    assert_eq!(refused(&|book| book.routes[1].corners.push(Point::new(40, 10))), "refused 13 at 91");
+    assert_eq!(refused(&|book| book.routes[2].corners[1].y = 1_000_001), "refused 8 at 109");
 }
 
 #[test]
@@ -201,7 +282,7 @@ fn one_bend_each(job: &Job) -> PlanBook {
     };
     let vertex = |p: Point| survey.grid.vertex(p).expect("a run's points are vertices");
     let routes: Vec<Path> = job.runs.iter().map(|run| path(vertex(run.first), vertex(run.second))).collect();
-    PlanBook::of(job, &planner::drawn(&survey, survey.graph.centre(), &routes))
+    PlanBook::of(job, &planner::drawn(&survey, &routes).expect("every group is a star"))
 }
 
 #[test]
@@ -228,7 +309,9 @@ fn a_longer_union_is_caught() {
 fn every_changed_byte_is_caught() {
     for n in 0..150 {
         let mut random = Random::nth(79, n);
-        let job = generate::small_star(&mut random, KINDS[n as usize % KINDS.len()]);
+        let (kind, layout) = (KINDS[n as usize % KINDS.len()], LAYOUTS[n as usize % LAYOUTS.len()]);
+        let star = n % 2 == 0;
+        let job = if star { generate::small_star(&mut random, kind) } else { leases::small_lease(&mut random, layout) };
         let bytes = book(&job).bytes();
         for at in 0..bytes.len() {
             let mut changed = bytes.clone();
@@ -246,6 +329,9 @@ fn broken_books_are_caught() {
         assert!(!judge(&job, &whole[..length]).is_empty(), "cut to {length}");
     }
     let more = [&whole[..], &[0]].concat();
-    assert_eq!(judge(&job, &more), ["refused 12 at 115"]);
+    assert_eq!(judge(&job, &more), ["refused 12 at 121"]);
     assert_says(&judge(&job[..10], &whole).join("\n"), "no plan is due: the job is refused 3 at 5");
+    let older = book.as_older().bytes();
+    assert_eq!(judge(&job, &[&whole[..19], &older[19..]].concat()), ["refused 12 at 19"], "an older route");
+    assert_eq!(judge(&job, &[&older[..62], &whole[64..]].concat()), ["refused 12 at 62"], "a newer route");
 }

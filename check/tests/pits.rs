@@ -3,7 +3,8 @@
 use std::collections::BTreeSet;
 
 use trench_check::generate::{self, CROSSINGS, KINDS};
-use trench_check::job::Point;
+use trench_check::job::{Job, Point};
+use trench_check::leases::{self, LAYOUTS};
 use trench_check::line;
 use trench_check::pits::{self, Pits};
 use trench_check::planner;
@@ -157,10 +158,27 @@ fn crossings_of_planned_stars() {
 fn stars_of_every_kind_piece_by_piece() {
     for n in 0..260 {
         let job = generate::star(&mut Random::nth(32, n), KINDS[n as usize % KINDS.len()]);
-        let plan = planner::plan(&job).expect("a star");
-        let corners: BTreeSet<Point> = plan.corners.iter().flatten().copied().collect();
-        assert_eq!(plan.pits, corners.union(&crossed_at(&plan.corners)).count(), "{}", line::show(&job));
+        assert_pits_by_pieces(&job);
     }
+}
+
+/// The pits of a planned job, found piece by piece.
+fn assert_pits_by_pieces(job: &Job) {
+    let plan = planner::plan(job).expect("every group is a star");
+    let corners: BTreeSet<Point> = plan.corners.iter().flatten().copied().collect();
+    assert_eq!(plan.pits, corners.union(&crossed_at(&plan.corners)).count(), "{}", line::show(job));
+}
+
+/// Pits belong to all groups together: where groups touch there is one, and where they cross one too.
+#[test]
+fn leases_of_every_layout_piece_by_piece() {
+    for n in 0..270 {
+        assert_pits_by_pieces(&leases::lease(&mut Random::nth(33, n), LAYOUTS[n as usize % LAYOUTS.len()]));
+    }
+    let pits = |words| planner::plan(&line::parse(words, 7).unwrap().unwrap()).unwrap().pits;
+    assert_eq!(pits("0,0 3,0; 3,0 5,0; 3,0 3,0"), 3, "three groups at one point");
+    assert_eq!(pits("0,2 4,2; 2,0 2,4"), 5, "two groups that cross");
+    assert_eq!(pits("0,2 4,2; 2,0 2,4; 2,2 2,2"), 5, "and a third that is the point there");
 }
 
 /// The proved program prints routes by their corners, and their pits.

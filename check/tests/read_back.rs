@@ -2,8 +2,10 @@
 
 use trench_check::book_cases::book_case;
 use trench_check::job::Point;
-use trench_check::plan_book::{PlanBook, RouteRecord, record_length};
-use trench_check::read_back::{Answered, Asker, Question, corner_at, listed, route_at, try_books, try_plan_listing};
+use trench_check::plan_book::{Kinds, PlanBook, RouteRecord};
+use trench_check::read_back::{
+    Answered, Asker, FIGURES, Question, ROUTE_WORDS, corner_at, listed, route_at, try_books, try_plan_listing,
+};
 use trench_check::refusal::Refusal;
 use trench_check::report::{Report, Subject};
 
@@ -44,11 +46,35 @@ enum Slip {
     RunsNotCompared,
     TotalNotCompared,
     RunNumberJudged,
+    // In the kinds.
+    OlderRefused,
+    NewerRefused,
+    MixedRead,
+    MixedAtHead,
+    MixedAtLength,
+    MixedByLength,
+    OlderRouteInNewer,
+    NewerRouteInOlder,
+    SevenBytesAlways,
+    NineBytesAlways,
+    OtherHeadRead,
+    GroupsJudged,
     // In what is asked.
     PlaceOfAccepted,
     FiguresOfRefused,
     FiguresSwapped,
     FiguresThoughShort,
+    SixFigures,
+    KindOfOlder,
+    KindsSwapped,
+    ThreeFields,
+    CentreByIndex,
+    CentreOfOlder,
+    FieldsOfOlder,
+    OlderRouteNotFound,
+    CornerByPlace,
+    CornerBySeven,
+    CornerByNine,
     PlacesOfRefused,
     PlacesWithoutEnd,
     PlacesNotCleared,
@@ -110,6 +136,40 @@ fn in_range(slip: Slip, value: i32) -> bool {
     value >= -far && (value <= far || slip == Slip::LowerLimitOnly)
 }
 
+/// The length of a record of this kind in a book of these kinds.
+fn record_length(slip: Slip, kind: u8, kinds: Option<Kinds>) -> Option<usize> {
+    match kind {
+        0x50 | 0x51 => Some(19),
+        0x4F if slip == Slip::SevenBytesAlways => Some(7),
+        0x4E if slip == Slip::NineBytesAlways => Some(9),
+        0x4E | 0x4F if slip == Slip::MixedByLength => Some(if kinds == Some(Kinds::Newer) { 9 } else { 7 }),
+        0x4F => Some(9),
+        0x4E => Some(7),
+        0x43 => Some(9),
+        0x5A => Some(3),
+        _ => None,
+    }
+}
+
+/// The kinds of the book whose head this is.
+fn kinds_of(slip: Slip, kind: u8) -> Option<Kinds> {
+    match kind {
+        0x51 if slip != Slip::NewerRefused => Some(Kinds::Newer),
+        0x50 if slip != Slip::OlderRefused => Some(Kinds::Older),
+        _ => None,
+    }
+}
+
+/// Whether a route of this kind may stand in a book of these kinds.
+fn belongs(slip: Slip, kind: u8, kinds: Kinds) -> bool {
+    match (kind, kinds) {
+        _ if matches!(slip, Slip::MixedRead | Slip::MixedByLength) => true,
+        (0x4E, Kinds::Newer) => slip == Slip::OlderRouteInNewer,
+        (0x4F, Kinds::Older) => slip == Slip::NewerRouteInOlder,
+        _ => true,
+    }
+}
+
 /// The records front to back, each with its place.
 fn records(slip: Slip, bytes: &[u8]) -> Result<(PlanBook, Vec<usize>), Refusal> {
     let (mut book, mut places): (Option<PlanBook>, Vec<usize>) = (None, Vec::new());
@@ -119,24 +179,34 @@ fn records(slip: Slip, bytes: &[u8]) -> Result<(PlanBook, Vec<usize>), Refusal> 
         let Some(&kind) = bytes.get(at) else {
             return if slip == Slip::NoEndAtLastRecord { Err(refusal(12, before)) } else { wrong };
         };
-        let Some(length) = record_length(kind) else { return wrong };
+        let kinds = book.as_ref().map(|book| book.kinds);
+        let Some(length) = record_length(slip, kind, kinds) else { return wrong };
         let Some(body) = bytes.get(at + 1..at + length) else {
             return if slip == Slip::CutAtLength { Err(refusal(12, bytes.len())) } else { wrong };
         };
         let Some(read) = book.as_mut() else {
-            if kind != 0x50 {
-                return wrong;
+            let Some(kinds) = kinds_of(slip, kind) else { return wrong };
+            let (runs, pits, last) = (half(&body[4..]), half(&body[14..]), half(&body[16..]));
+            let (job, trench, saved) = (word(body), word(&body[6..]), word(&body[10..]));
+            if slip == Slip::GroupsJudged && kinds == Kinds::Newer && last > runs {
+                return Err(refusal(14, 0));
             }
-            let (runs, pits, centre) = (half(&body[4..]), half(&body[14..]), half(&body[16..]));
-            let (trench, saved) = (word(&body[6..]), word(&body[10..]));
-            book = Some(PlanBook { job: word(body), runs, trench, saved, pits, centre, routes: Vec::new(), total: 0 });
+            book = Some(PlanBook { kinds, job, runs, trench, saved, pits, last, routes: Vec::new(), total: 0 });
             at += length;
             continue;
         };
         match kind {
-            0x50 if slip != Slip::SecondHead => return wrong,
-            0x50 => {}
-            0x4E => {
+            0x50 | 0x51 if slip == Slip::SecondHead => {}
+            0x50 | 0x51 if slip == Slip::OtherHeadRead && kind != read.kinds.head() => {}
+            0x50 | 0x51 => return wrong,
+            0x4E | 0x4F if !belongs(slip, kind, read.kinds) => {
+                return match slip {
+                    Slip::MixedAtHead => Err(refusal(12, 0)),
+                    Slip::MixedAtLength => Err(refusal(12, bytes.len())),
+                    _ => wrong,
+                };
+            }
+            0x4E | 0x4F => {
                 if slip == Slip::CountsEarly
                     && read.routes.last().is_some_and(|r| usize::from(r.count) != r.corners.len())
                 {
@@ -150,7 +220,8 @@ fn records(slip: Slip, bytes: &[u8]) -> Result<(PlanBook, Vec<usize>), Refusal> 
                 if slip == Slip::RunNumberJudged && run == 0 {
                     return Err(refusal(7, at));
                 }
-                read.routes.push(RouteRecord { run, meets, count, corners: Vec::new() });
+                let centre = body.get(6..8).filter(|_| read.kinds == Kinds::Newer).map_or(0, half);
+                read.routes.push(RouteRecord { run, meets, count, centre, corners: Vec::new() });
                 places.push(at);
             }
             0x43 => {
@@ -202,7 +273,7 @@ fn wrong_counts(slip: Slip, book: &PlanBook, places: &[usize]) -> Vec<usize> {
         let empty = route.corners.is_empty() && slip != Slip::NoCornerAccepted;
         let alone = route.corners.len() == 1 && slip == Slip::OneCornerRefused;
         if usize::from(route.count) != route.corners.len() || empty || alone {
-            wrong.push(place + if slip == Slip::FourteenAtCorner { 7 } else { 0 });
+            wrong.push(place + if slip == Slip::FourteenAtCorner { book.kinds.route_length() } else { 0 });
         }
     }
     let end = *places.last().expect("an end");
@@ -220,7 +291,7 @@ fn wrong_counts(slip: Slip, book: &PlanBook, places: &[usize]) -> Vec<usize> {
 
 fn read(slip: Slip, bytes: &[u8]) -> Result<PlanBook, Refusal> {
     if slip == Slip::EmptyAccepted && bytes.is_empty() {
-        return read(Slip::None, &[&[0x50][..], &[0; 18], &[0x5A, 0, 0]].concat());
+        return read(Slip::None, &[&[0x51][..], &[0; 18], &[0x5A, 0, 0]].concat());
     }
     let (book, places) = records(slip, bytes)?;
     match wrong_counts(slip, &book, &places).first() {
@@ -240,10 +311,14 @@ impl Reader {
             Err(_) if slipped => records(Slip::None, &[&self.bytes[..19], &[0x5A, 0, 0]].concat()).ok()?.0,
             read => read.clone().ok()?,
         };
-        let mut figures =
-            vec![book.job, book.runs.into(), book.trench, book.saved, book.pits.into(), book.centre.into()];
-        if self.slip == Slip::FiguresSwapped {
-            figures.swap(4, 5);
+        let (pits, last, kind) = (book.pits.into(), book.last.into(), book.kinds.head().into());
+        let mut figures = vec![book.job, book.runs.into(), book.trench, book.saved, pits, last, kind];
+        match self.slip {
+            Slip::FiguresSwapped => figures.swap(4, 5),
+            Slip::SixFigures => figures.truncate(6),
+            Slip::KindOfOlder => figures[6] = 0x51,
+            Slip::KindsSwapped => figures[6] ^= 1,
+            _ => {}
         }
         Some(figures)
     }
@@ -265,16 +340,46 @@ impl Reader {
     fn route(&self, places: &[u32], i: usize) -> Option<Vec<u32>> {
         let i = if self.slip == Slip::RouteBehind { i.saturating_add(1) } else { i };
         let from = *places.get(i)? as usize;
-        let fields = |body: &[u8]| [0, 2, 4].map(|at| u32::from(half(&body[at..]))).to_vec();
+        let fields = |count: usize| {
+            let body = self.bytes.get(from + 1..from + 1 + 2 * count)?;
+            let mut fields: Vec<u32> = body.chunks_exact(2).map(|field| half(field).into()).collect();
+            fields.resize(ROUTE_WORDS, 0);
+            Some(fields)
+        };
+        let kind = self.bytes.get(from).copied();
+        let right = route_at(&self.bytes, places, i);
         match self.slip {
-            Slip::RouteOfEnd if self.bytes.get(from) == Some(&0x5A) => Some(vec![0; 3]),
-            Slip::RouteNotWithin if self.bytes.get(from) == Some(&0x4E) => {
-                Some(fields(self.bytes.get(from + 1..from + 7)?))
-            }
-            Slip::RouteKindNotLookedAt if places.get(i + 1).is_some_and(|&to| from < to as usize) => {
-                Some(fields(self.bytes.get(from + 1..from + 7)?))
-            }
-            _ => route_at(&self.bytes, places, i),
+            Slip::RouteOfEnd if kind == Some(0x5A) => Some(vec![0; ROUTE_WORDS]),
+            Slip::RouteNotWithin if kind == Some(0x4F) => fields(4),
+            Slip::RouteKindNotLookedAt if places.get(i + 1).is_some_and(|&to| from < to as usize) => fields(3),
+            Slip::ThreeFields => right.map(|fields| fields[..3].to_vec()),
+            Slip::CentreByIndex => right.map(|mut fields| {
+                let routes = self.read.as_ref().map_or(&[][..], |book| &book.routes);
+                let index = routes.iter().position(|route| u32::from(route.run) == fields[3]);
+                fields[3] = index.map_or(fields[3], |index| index as u32);
+                fields
+            }),
+            Slip::CentreOfOlder => right.map(|mut fields| {
+                if let (Some(0x4E), Ok(book)) = (kind, &self.read) {
+                    fields[3] = book.last.into();
+                }
+                fields
+            }),
+            Slip::FieldsOfOlder if kind == Some(0x4E) => right.and_then(|right| fields(4).or(Some(right))),
+            Slip::OlderRouteNotFound => right.filter(|_| kind == Some(0x4F) || self.bytes.first() != Some(&0x51)),
+            _ => right,
+        }
+    }
+
+    /// How far behind a route's place its first corner stands.
+    fn behind(&self, from: u32) -> usize {
+        match self.slip {
+            Slip::CornerBySeven => 7,
+            Slip::CornerByNine => 9,
+            Slip::CornerByPlace if self.bytes.get(from as usize) == Some(&0x4F) => 9,
+            Slip::CornerByPlace => 7,
+            _ if self.bytes.first() == Some(&0x51) => 9,
+            _ => 7,
         }
     }
 
@@ -286,19 +391,20 @@ impl Reader {
             let body = self.bytes.get(at..at + 9).filter(|record| record[0] == 0x43)?;
             Some(vec![word(&body[1..]), word(&body[5..])])
         };
+        let behind = self.behind(from);
+        let at = |j: usize| from as usize + behind + 9 * j;
         match self.slip {
-            Slip::CornerPastItsRoute if j < 127 && from < to => two(from as usize + 7 + 9 * j),
-            Slip::Corner127Asked if j < 200 && from as usize + 7 + 9 * j < to as usize => {
-                two(from as usize + 7 + 9 * j)
+            Slip::CornerPastItsRoute if j < 127 && from < to => two(at(j)),
+            Slip::Corner127Asked if j < 200 && at(j) < to as usize => two(at(j)),
+            Slip::CornerBySeven | Slip::CornerByNine | Slip::CornerByPlace if j < 127 && at(j) < to as usize => {
+                two(at(j))
             }
             Slip::CornerByWrappingWords if j < 127 => {
-                let at = from.wrapping_add(7 + 9 * j as u32);
+                let at = from.wrapping_add((behind + 9 * j) as u32);
                 two(at as usize).filter(|_| at < to)
             }
             Slip::CornerJudged => corner_at(&self.bytes, places, i, j).filter(|_| self.read.is_ok()),
-            Slip::PlacesPastTheLast if i.checked_add(1) == Some(places.len()) && j < 127 => {
-                two(from as usize + 7 + 9 * j)
-            }
+            Slip::PlacesPastTheLast if i.checked_add(1) == Some(places.len()) && j < 127 => two(at(j)),
             _ => corner_at(&self.bytes, places, i, j),
         }
     }
@@ -307,7 +413,7 @@ impl Reader {
     fn write(&self, found: Option<Vec<u32>>, words: &mut [u32]) -> i64 {
         let Some(found) = found else { return 0 };
         let though_short = match self.slip {
-            Slip::FiguresThoughShort => found.len() == 6,
+            Slip::FiguresThoughShort => found.len() == FIGURES,
             Slip::CornerThoughShort => found.len() == 2,
             Slip::PlacesForFewer => found.len() == 33,
             _ => false,
@@ -317,7 +423,8 @@ impl Reader {
         }
         let count = words.len().min(found.len());
         words[..count].copy_from_slice(&found[..count]);
-        if let Some(word) = words.get_mut(3).filter(|_| self.slip == Slip::RouteTouchesMore && found.len() == 3) {
+        let more = self.slip == Slip::RouteTouchesMore && found.len() == ROUTE_WORDS;
+        if let Some(word) = words.get_mut(ROUTE_WORDS).filter(|_| more) {
             *word = 0;
         }
         count as i64
@@ -415,20 +522,52 @@ fn wrong_counts_are_noticed() {
 }
 
 #[test]
+fn wrong_kinds_are_noticed() {
+    assert_noticed(Slip::OlderRefused, "the answer is -12 and should be ");
+    assert_noticed(Slip::NewerRefused, "the answer is -12 and should be ");
+    assert_noticed(Slip::MixedRead, "route of the other set");
+    assert_noticed(Slip::MixedRead, "and should be -12");
+    assert_noticed(Slip::MixedAtHead, "the answer is 0 and should be ");
+    assert_noticed(Slip::MixedAtLength, "route of the other set");
+    assert_noticed(Slip::MixedByLength, "other set's kind on a route");
+    assert_noticed(Slip::OlderRouteInNewer, "and should be -12");
+    assert_noticed(Slip::NewerRouteInOlder, "and should be -12");
+    assert_noticed(Slip::SevenBytesAlways, "the answer is -12 and should be ");
+    assert_noticed(Slip::NineBytesAlways, "the answer is -12 and should be ");
+    assert_noticed(Slip::OtherHeadRead, "second head, of the other set");
+    assert_noticed(Slip::GroupsJudged, "the answer is -14 and should be ");
+}
+
+#[test]
+fn wrong_answers_by_kinds_are_noticed() {
+    assert_noticed(Slip::SixFigures, "the answer is 6 and should be 7");
+    assert_noticed(Slip::KindOfOlder, "Figures with 7 words: ");
+    assert_noticed(Slip::KindsSwapped, "Figures with 7 words: ");
+    assert_noticed(Slip::ThreeFields, "the answer is 3 and should be 4");
+    assert_noticed(Slip::CentreByIndex, "planned");
+    assert_noticed(Slip::CentreOfOlder, "is written and should be");
+    assert_noticed(Slip::FieldsOfOlder, "is written and should be");
+    assert_noticed(Slip::OlderRouteNotFound, "the answer is 0 and should be 4");
+    assert_noticed(Slip::CornerBySeven, "the answer is 0 and should be 2");
+    assert_noticed(Slip::CornerByNine, "the answer is 0 and should be 2");
+    assert_noticed(Slip::CornerByPlace, "the answer is ");
+}
+
+#[test]
 fn wrong_answers_to_questions_are_noticed() {
     assert_noticed(Slip::PlaceOfAccepted, "and should be 0");
-    assert_noticed(Slip::FiguresOfRefused, "Figures with 6 words: the answer is 6 and should be 0");
+    assert_noticed(Slip::FiguresOfRefused, "Figures with 7 words: the answer is 7 and should be 0");
     assert_noticed(Slip::FiguresSwapped, "is written and should be");
-    assert_noticed(Slip::FiguresThoughShort, "Figures with 5 words: the answer is 5 and should be 0");
+    assert_noticed(Slip::FiguresThoughShort, "Figures with 6 words: the answer is 6 and should be 0");
     assert_noticed(Slip::PlacesOfRefused, "is written and should be");
     assert_noticed(Slip::PlacesWithoutEnd, "is written and should be");
     assert_noticed(Slip::PlacesNotCleared, "is written and should be");
     assert_noticed(Slip::PlacesForFewer, "Places with 32 words: the answer is 32 and should be 0");
     assert_noticed(Slip::RouteBehind, "is written and should be");
-    assert_noticed(Slip::RouteOfEnd, "the answer is 3 and should be 0");
-    assert_noticed(Slip::RouteNotWithin, "the answer is 3 and should be 0");
-    assert_noticed(Slip::RouteKindNotLookedAt, "the answer is 3 and should be 0");
-    assert_noticed(Slip::RouteTouchesMore, "a word behind the 3 written was changed");
+    assert_noticed(Slip::RouteOfEnd, "the answer is 4 and should be 0");
+    assert_noticed(Slip::RouteNotWithin, "the answer is 4 and should be 0");
+    assert_noticed(Slip::RouteKindNotLookedAt, "the answer is 4 and should be 0");
+    assert_noticed(Slip::RouteTouchesMore, "a word behind the 4 written was changed");
     assert_noticed(Slip::CornerBehind, "is written and should be");
     assert_noticed(Slip::CornerPastItsRoute, "the answer is 2 and should be 0");
     assert_noticed(Slip::CornerThoughShort, "the answer is 1 and should be 0");
@@ -481,6 +620,9 @@ fn listings_are_held_to_what_is_due() {
     assert_noticed("and should be \"refused 13 at", &|text| text.replace("refused 13 at ", "refused 13 at 1"));
     assert_noticed("and should be \"refused 12 at 0\\n\"", &|text| text.trim_end().to_string());
     assert_noticed("line 2 of the listing is \"route", &|text| text.replace("meets 0", "meets 00"));
+    assert_noticed("line 2 of the listing is \"route", &|text| text.replace(" centre ", " center "));
+    assert_noticed("line 1 of the listing is \"job", &|text| text.replace(" groups ", " centre "));
+    assert_noticed("line 1 of the listing is \"job", &|text| text.replacen(" centre ", " groups ", 1));
     assert_noticed("is none and should be \"route", &|text| {
         text.lines().take(1).map(|line| line.to_string() + "\n").collect()
     });

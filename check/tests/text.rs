@@ -93,29 +93,64 @@ fn errors_name_their_lines() {
 fn why_a_job_is_no_star() {
     let why = |text: &str| why_no_star(&parse(text).expect("a right text"));
     assert_eq!(
-        why("job 7\n1 0,0 3,3\n2 3,3 5,5\n"),
-        "with run 1 (line 2) as the centre: run 1 (line 2) does not meet run 2 (line 3)"
-    );
-    assert_eq!(
         why("job 7\n1 0,0 3,4\n2 0,0 3,4\n\n3 0,0 3,4\n"),
-        "with run 1 (line 2) as the centre: run 2 (line 3) meets run 3 (line 5)"
+        "the group of runs 1, 2, 3 is no star: with run 1 (line 2) as the centre: run 2 (line 3) meets run 3 (line 5)"
     );
+    assert_eq!(why("job 7\n1 0,0 3,3\n2 3,3 5,5\n"), "", "two groups, each of one run");
+}
+
+/// The groups that are stars are not spoken of, and each that is none has a line.
+#[test]
+fn which_group_is_no_star() {
+    let why = |text: &str| why_no_star(&parse(text).expect("a right text"));
+    let chain = "3 0,0 2,0\n4 1,0 4,0\n6 3,0 6,0\n7 5,0 8,0\n";
+    let told = "the group of runs 3, 4, 6, 7 is no star: with run 4 (line 4) as the centre: run 4 (line 4) does not meet run 7 (line 6); run 6 (line 5) meets run 7 (line 6)";
+    assert_eq!(why(&format!("job 7\n1 0,9 5,9\n{chain}8 0,9 5,9\n9 7,7 7,7\n")), told);
+    let twice = why(&format!("job 7\n1 0,9 5,9\n{chain}8 0,9 5,9\n9 0,9 4,9\n"));
+    let first =
+        "the group of runs 1, 8, 9 is no star: with run 1 (line 2) as the centre: run 8 (line 7) meets run 9 (line 8)";
+    assert_eq!(twice, format!("{first}\n{told}"));
 }
 
 #[test]
 fn the_listing_of_document_01() {
     let job = parse("job 7\n1 0,0 40,30\n2 0,10 40,10\n3 20,20 20,50\n").expect("a right text").job;
     let book = PlanBook::of(&job, &planner::plan(&job).expect("a star"));
-    let text = "job 7 runs 3 centre 1 trench 100 saved 40 pits 6\nroute 1 meets 2 corners 4: 0,0 0,10 40,10 40,30\nroute 2 meets 1 corners 2: 0,10 40,10\nroute 3 meets 1 corners 2: 20,20 20,50\n";
+    let text = "job 7 runs 3 groups 1 trench 100 saved 40 pits 6\nroute 1 meets 2 centre 1 corners 4: 0,0 0,10 40,10 40,30\nroute 2 meets 1 centre 1 corners 2: 0,10 40,10\nroute 3 meets 1 centre 1 corners 2: 20,20 20,50\n";
     assert_eq!(listing::of_plan(&book), text);
-    assert_eq!(listing::read_plan(text), Ok(book));
+    assert_eq!(listing::read_plan(text), Ok(book.clone()));
+    let older = "job 7 runs 3 centre 1 trench 100 saved 40 pits 6\nroute 1 meets 2 corners 4: 0,0 0,10 40,10 40,30\nroute 2 meets 1 corners 2: 0,10 40,10\nroute 3 meets 1 corners 2: 20,20 20,50\n";
+    assert_eq!(listing::of_plan(&book.clone().as_older()), older, "as it was listed before there were groups");
+    assert_eq!(listing::read_plan(older), Ok(book.as_older()));
     assert_eq!(listing::of_refusal(refusal::Refusal { number: 11, place: 0 }), "refused 11 at 0\n");
+}
+
+#[test]
+fn the_listing_of_several_groups() {
+    let job = parse("job 9\n5 0,0 2,2\n12 2,2 4,4\n31 7,7 7,7\n40 2,2 4,4\n").expect("a right text").job;
+    let text = listing::of_plan(&PlanBook::of(&job, &planner::plan(&job).expect("stars")));
+    let lines: Vec<&str> = text.lines().map(|line| line.split(':').next().unwrap_or("")).collect();
+    assert_eq!(lines[0], "job 9 runs 4 groups 3 trench 8 saved 4 pits 6");
+    assert_eq!(lines[1..3], ["route 5 meets 0 centre 5 corners 3", "route 12 meets 1 centre 12 corners 3"]);
+    assert_eq!(lines[3..], ["route 31 meets 0 centre 31 corners 1", "route 40 meets 1 centre 12 corners 3"]);
 }
 
 #[test]
 fn the_listing_of_a_blank_job() {
     let job = parse("job 7\n").expect("a right text").job;
-    let book = PlanBook::of(&job, &planner::plan(&job).expect("a star"));
-    let text = "job 7 runs 0 centre 0 trench 0 saved 0 pits 0\n";
-    assert_eq!((listing::of_plan(&book).as_str(), listing::read_plan(text)), (text, Ok(book)));
+    let book = PlanBook::of(&job, &planner::plan(&job).expect("a blank job is planned"));
+    let text = "job 7 runs 0 groups 0 trench 0 saved 0 pits 0\n";
+    assert_eq!((listing::of_plan(&book).as_str(), listing::read_plan(text)), (text, Ok(book.clone())));
+    let older = "job 7 runs 0 centre 0 trench 0 saved 0 pits 0\n";
+    assert_eq!(listing::read_plan(older), Ok(book.as_older()));
+}
+
+/// A listing has the words of one set of kinds, or it is none.
+#[test]
+fn mixed_listings_are_none() {
+    let head = |word: &str| format!("job 7 runs 1 {word} 1 trench 7 saved 0 pits 3\n");
+    let route = |centre: &str| format!("route 1 meets 0{centre} corners 3: 0,0 3,0 3,4\n");
+    let read = |word: &str, centre: &str| listing::read_plan(&(head(word) + &route(centre))).is_ok();
+    assert_eq!([read("groups", " centre 1"), read("centre", "")], [true, true]);
+    assert_eq!([read("groups", ""), read("centre", " centre 1"), read("group", " centre 1")], [false; 3]);
 }

@@ -111,10 +111,10 @@ static uint8_t *put(uint8_t *to, uint32_t value, int bytes)
 /* The longest book that is read: 32 routes of 127 corners, each a stair. Gives its length. */
 static size_t longest_book(uint8_t *book)
 {
-    uint8_t *to = put(put(put(book, 0x50, 1), 7, 4), TRENCH_MOST_RUNS, 2);
+    uint8_t *to = put(put(put(book, 0x51, 1), 7, 4), TRENCH_MOST_RUNS, 2);
     to = put(put(put(to, 0, 4), 0, 4), 0, 4);
     for (uint32_t i = 0; i < TRENCH_MOST_RUNS; i++) {
-        to = put(put(put(put(to, 0x4E, 1), i + 1, 2), 0, 2), TRENCH_MOST_CORNERS, 2);
+        to = put(put(put(put(put(to, 0x4F, 1), i + 1, 2), 0, 2), TRENCH_MOST_CORNERS, 2), i + 1, 2);
         for (uint32_t j = 0; j < TRENCH_MOST_CORNERS; j++)
             to = put(put(put(to, 0x43, 1), (j + 1) / 2, 4), j / 2, 4);
     }

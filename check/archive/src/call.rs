@@ -15,10 +15,10 @@ unsafe extern "C" {
     fn trench_plan(job: *const u8, job_len: usize, out: *mut u8, out_len: usize) -> i32;
     fn table_plan(job: *const u8, job_len: usize, out: *mut u8, out_len: usize) -> i32;
     fn table_plan_clearing(job: *const u8, job_len: usize, out: *mut u8, out_len: usize) -> i32;
-    fn table_frame(job: *const u8, job_len: usize, rounds: u32, out: *mut u8) -> usize;
-    fn table_rounds(job: *const u8, job_len: usize, rounds: u32, sum: *mut u32) -> u32;
+    fn table_frame(job: *const u8, job_len: usize, group: u32, rounds: u32, out: *mut u8) -> usize;
+    fn table_rounds(job: *const u8, job_len: usize, group: u32, rounds: u32, sum: *mut u32) -> u32;
     fn tuned_plan_clearing(job: *const u8, job_len: usize, out: *mut u8, out_len: usize) -> i32;
-    fn tuned_rounds(job: *const u8, job_len: usize, rounds: u32, sum: *mut u32) -> u32;
+    fn tuned_rounds(job: *const u8, job_len: usize, group: u32, rounds: u32, sum: *mut u32) -> u32;
     fn stray_write_before(job: *const u8, job_len: usize, out: *mut u8, out_len: usize) -> i32;
     fn stray_write_behind(job: *const u8, job_len: usize, out: *mut u8, out_len: usize) -> i32;
     fn stray_write_job(job: *const u8, job_len: usize, out: *mut u8, out_len: usize) -> i32;
@@ -142,22 +142,23 @@ pub fn write_job_place(number: u32, list: &[i32], out: &[u8]) -> usize {
 /// Bytes of a record that the program `table_rounds` reads.
 const FRAME: usize = 1546;
 
-/// So many rounds and the frame of the job's centre, as the program `table_rounds` reads them; none where the job is refused.
-pub fn frame_of(job: &[u8], rounds: u32) -> Option<[u8; FRAME]> {
+/// So many rounds and the frame of the centre of a group, as the program `table_rounds` reads them; none where the job is refused or
+/// has no such group. Groups are counted from 0 in the order of their first runs.
+pub fn frame_of(job: &[u8], group: usize, rounds: u32) -> Option<[u8; FRAME]> {
     let mut out = [0; FRAME];
     // SAFETY: the function reads `job.len()` bytes of job and writes at most FRAME bytes of out; both are alive and apart.
-    let length = unsafe { table_frame(job.as_ptr(), job.len(), rounds, out.as_mut_ptr()) };
+    let length = unsafe { table_frame(job.as_ptr(), job.len(), group as u32, rounds, out.as_mut_ptr()) };
     (length == FRAME).then_some(out)
 }
 
-/// Fills the table of a job and traces the walk in it so many times, by the plain C planner or the tuned one: what is saved, and a
-/// sum over the walks.
+/// Fills the table of a job's first group and traces the walk in it so many times, by the plain C planner or the tuned one: what is
+/// saved, and a sum over the walks.
 pub fn rounds_in_c(tuned: bool, job: &[u8], rounds: u32) -> (u32, u32) {
     let mut sum = 0;
     // SAFETY: the functions read `job.len()` bytes of job and write one word; both are alive and apart.
     let saved = unsafe {
         let function = if tuned { tuned_rounds } else { table_rounds };
-        function(job.as_ptr(), job.len(), rounds, &mut sum)
+        function(job.as_ptr(), job.len(), 0, rounds, &mut sum)
     };
     (saved, sum)
 }

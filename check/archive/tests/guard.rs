@@ -73,8 +73,10 @@ fn several_threads_at_once() {
 fn the_plain_c_planner_is_right_too() {
     let report = try_cases(&mut Guarded::new(Function::Table, Against::Back), 13, 0, 1_000, 1);
     assert_eq!(report.faults, Vec::<String>::new());
-    let report = try_cases(&mut Guarded::new(Function::TableClearing, Against::Front), 14, 0, 500, 1);
-    assert_eq!(report.faults, Vec::<String>::new());
+    for function in [Function::TableClearing, Function::TunedClearing] {
+        let report = try_cases(&mut Guarded::new(function, Against::Front), 14, 0, 800, 1);
+        assert_eq!(report.faults, Vec::<String>::new());
+    }
 }
 
 /// Its answers are those of the archive, which are compared with the independent reading, and it reads nothing but the book.

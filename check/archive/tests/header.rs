@@ -42,7 +42,7 @@ static int read_back(void)
     uint32_t figures[TRENCH_FIGURES + 1], places[TRENCH_PLACES + 1], route[TRENCH_ROUTE + 1];
     int32_t corner[TRENCH_CORNER + 1];
     int32_t length = plan(turned, sizeof turned, out, sizeof out);
-    if (length != 22 + 7 + 3 * 9)
+    if (length != 22 + 9 + 3 * 9)
         return 10;
     size_t book = (size_t)length;
     memset(figures, 1, sizeof figures), memset(places, 1, sizeof places);
@@ -53,11 +53,13 @@ static int read_back(void)
         return 12;
     if (figures_of(out, book, figures, TRENCH_FIGURES) != TRENCH_FIGURES)
         return 13;
-    if (figures[0] != 0xFFFFFFFF || figures[1] != 1 || figures[2] != 7 || figures[3] != 0 || figures[4] != 3 || figures[5] != 9)
+    if (figures[0] != 0xFFFFFFFF || figures[1] != 1 || figures[2] != 7 || figures[3] != 0 || figures[4] != 3)
         return 14;
+    if (figures[5] != 1 || figures[6] != 0x51)
+        return 33;
     if (places_of(out, book, places, TRENCH_PLACES - 1) != 0 || places[0] != 0x01010101)
         return 15;
-    if (places_of(out, book, places, TRENCH_PLACES) != TRENCH_PLACES || places[0] != 19 || places[1] != 53 || places[2] != 0)
+    if (places_of(out, book, places, TRENCH_PLACES) != TRENCH_PLACES || places[0] != 19 || places[1] != 55 || places[2] != 0)
         return 16;
     if (route_of(out, book, places, TRENCH_PLACES, 0, route, TRENCH_ROUTE - 1) != 0 || route[0] != 0x01010101)
         return 17;
@@ -65,7 +67,7 @@ static int read_back(void)
         return 18;
     if (route_of(out, book, places, TRENCH_PLACES, 0, route, TRENCH_ROUTE) != TRENCH_ROUTE)
         return 19;
-    if (route[0] != 9 || route[1] != 0 || route[2] != 3)
+    if (route[0] != 9 || route[1] != 0 || route[2] != 3 || route[3] != 9)
         return 20;
     if (corner_of(out, book, places, TRENCH_PLACES, 0, 2, corner, TRENCH_CORNER - 1) != 0 || corner[0] != 0x01010101)
         return 21;
@@ -77,23 +79,51 @@ static int read_back(void)
         return 24;
     if (figures[TRENCH_FIGURES] != 0x01010101 || places[TRENCH_PLACES] != 0x01010101 || route[TRENCH_ROUTE] != 0x01010101)
         return 25;
-    if (corner[TRENCH_CORNER] != 0x01010101 || TRENCH_FIGURES != 6 || TRENCH_PLACES != 33)
+    if (corner[TRENCH_CORNER] != 0x01010101 || TRENCH_FIGURES != 7 || TRENCH_PLACES != 33 || TRENCH_ROUTE != 4)
         return 26;
-    if (read_plan(out, book - 1) != -TRENCH_NOT_WHOLE || read_place(out, book - 1) != 53)
+    if (read_plan(out, book - 1) != -TRENCH_NOT_WHOLE || read_place(out, book - 1) != 55)
         return 27;
-    out[52] = 1; /* the last corner's y is 16,777,220 */
-    if (read_plan(out, book) != -TRENCH_COORDINATE || read_place(out, book) != 44)
+    out[54] = 1; /* the last corner's y is 16,777,220 */
+    if (read_plan(out, book) != -TRENCH_COORDINATE || read_place(out, book) != 46)
         return 28;
-    memcpy(out + 44, out + 35, 9);
-    if (read_plan(out, book) != -TRENCH_NO_TURN || read_place(out, book) != 44)
+    memcpy(out + 46, out + 37, 9);
+    if (read_plan(out, book) != -TRENCH_NO_TURN || read_place(out, book) != 46)
         return 29;
     plan(turned, sizeof turned, out, sizeof out);
-    out[54] = 4;
-    if (read_plan(out, book) != -TRENCH_MISCOUNTED || read_place(out, book) != 53)
+    out[56] = 4;
+    if (read_plan(out, book) != -TRENCH_MISCOUNTED || read_place(out, book) != 55)
         return 30;
     if (figures_of(out, book, figures, TRENCH_FIGURES) != 0 || places_of(out, book, places, TRENCH_PLACES) != TRENCH_PLACES)
         return 31;
     return places[0] == 0 && route_of(out, book, places, TRENCH_PLACES, 0, route, TRENCH_ROUTE) == 0 ? 0 : 32;
+}
+
+/* Reads a plan of the older kinds, and refuses one with routes of the other set; 0, or where it went wrong. */
+static int read_older(void)
+{
+    static const uint8_t older[] = { 0x50, 7, 0, 0, 0, 1, 0, 7, 0, 0, 0, 0, 0, 0, 0, 2, 0, 9, 0,
+        0x4E, 9, 0, 0, 0, 1, 0, 0x43, 3, 0, 0, 0, 4, 0, 0, 0, 0x5A, 1, 0 };
+    uint8_t book[sizeof older];
+    uint32_t figures[TRENCH_FIGURES], places[TRENCH_PLACES], route[TRENCH_ROUTE];
+    int32_t corner[TRENCH_CORNER];
+    memcpy(book, older, sizeof book);
+    if (read_plan(book, sizeof book) != 1 || figures_of(book, sizeof book, figures, TRENCH_FIGURES) != TRENCH_FIGURES)
+        return 70;
+    if (figures[0] != 7 || figures[2] != 7 || figures[4] != 2 || figures[5] != 9 || figures[6] != 0x50)
+        return 71;
+    if (places_of(book, sizeof book, places, TRENCH_PLACES) != TRENCH_PLACES || places[0] != 19 || places[1] != 35)
+        return 72;
+    if (route_of(book, sizeof book, places, TRENCH_PLACES, 0, route, TRENCH_ROUTE) != TRENCH_ROUTE)
+        return 73;
+    if (route[0] != 9 || route[1] != 0 || route[2] != 1 || route[3] != 0)
+        return 74;
+    if (corner_of(book, sizeof book, places, TRENCH_PLACES, 0, 0, corner, TRENCH_CORNER) != TRENCH_CORNER || corner[1] != 4)
+        return 75;
+    book[0] = 0x51;
+    if (read_plan(book, sizeof book) != -TRENCH_NOT_WHOLE || read_place(book, sizeof book) != 19)
+        return 76;
+    book[0] = 0x50, book[19] = 0x4F;
+    return read_plan(book, sizeof book) == -TRENCH_NOT_WHOLE && read_place(book, sizeof book) == 19 ? 0 : 77;
 }
 
 /* Writes the job of two runs and a blank one from lists, and has lists refused with every number; 0, or where it went wrong. */
@@ -157,7 +187,7 @@ int main(void)
     int32_t length = trench_plan(job, sizeof job, out, sizeof out);
     if (length <= 0 || length > TRENCH_LONGEST_PLAN || sizeof job > TRENCH_LONGEST_JOB)
         return 1;
-    if (out[0] != 0x50 || out[7] != 7)
+    if (out[0] != 0x51 || out[7] != 7 || TRENCH_LONGEST_PLAN != 36886)
         return 2;
     if (trench_plan(job, sizeof job, out, sizeof out - 1) != -TRENCH_SHORT_BUFFER)
         return 3;
@@ -168,7 +198,7 @@ int main(void)
     for (int i = 0; i < 9; i++)
         if (numbers[i] != i + 1)
             return 5;
-    if (trench_plan(blank, sizeof blank, out, sizeof out) != 22 || out[5] != 0 || out[19] != 0x5A)
+    if (trench_plan(blank, sizeof blank, out, sizeof out) != 22 || out[5] != 0 || out[17] != 0 || out[19] != 0x5A)
         return 6;
     if (TRENCH_NO_STAR != 11 || TRENCH_NOT_WHOLE != 12 || TRENCH_NO_TURN != 13 || TRENCH_MISCOUNTED != 14)
         return 7;
@@ -177,6 +207,8 @@ int main(void)
     int wrong = write_jobs();
     if (wrong == 0)
         wrong = ask_places();
+    if (wrong == 0)
+        wrong = read_older();
     return wrong ? wrong : read_back();
 }
 "#;

@@ -10,7 +10,7 @@ use std::process::{Command, Stdio};
 use std::sync::LazyLock;
 
 use common::svg::{Element, elements};
-use common::{compile, has, map_program, planned, root, run, samples, text};
+use common::{compile, has, map_program, older_samples, planned, root, run, samples, text};
 use trench_check::book::job_bytes;
 use trench_check::book_cases::{Made, book_case, count, made_up, route};
 use trench_check::book_damage;
@@ -18,9 +18,11 @@ use trench_check::damage::{self, damaged};
 use trench_check::generate::{self, CROSSINGS, KINDS};
 use trench_check::grid::Grid;
 use trench_check::job::{FAR, Job, MOST_RUNS, Point, Run};
+use trench_check::judge::LONGEST_PLAN;
+use trench_check::leases::{self, LAYOUTS};
 use trench_check::line;
 use trench_check::pits::{self, Pits};
-use trench_check::plan_book::{MOST_CORNERS, PlanBook, RouteRecord};
+use trench_check::plan_book::{BOTH_KINDS, Kinds, MOST_CORNERS, PlanBook, RouteRecord};
 use trench_check::random::Random;
 use trench_check::refusal::{self, verdict, words};
 
@@ -154,14 +156,23 @@ fn assert_drawing(job: &Job, plan: &PlanBook, document: &str) {
         assert!(on_sheet(x, y), "{p:?} is on the sheet");
     }
     assert_trenches(plan, &view, &of("line", "trench"));
-    assert_centre(plan, &view, &of("polyline", "centre"));
+    let routes: Vec<&Element> = of("polyline", "route").into_iter().chain(of("polyline", "centre")).collect();
+    match plan.kinds {
+        Kinds::Newer => assert_routes(plan, &view, &routes),
+        Kinds::Older => assert_centre(plan, &view, &routes),
+    }
+    assert_legend(plan, &all);
     let ends: Vec<&Element> =
         all.iter().filter(|element| element.has_class("end") || element.has_class("label")).collect();
     assert_ends(job, plan, &view, &ends);
     let grid = Grid::hanan(job);
     assert_eq!(of("line", "survey").len(), grid.columns.len() + grid.rows.len(), "the survey lines");
-    let some = if plan.runs == 1 { "run" } else { "runs" };
-    let head = format!("job {}: {} {some}, centre {}", plan.job, plan.runs, plan.centre);
+    let some = |count: u16, what: &str| format!("{count} {what}{}", if count == 1 { "" } else { "s" });
+    let last = match plan.kinds {
+        Kinds::Newer => some(plan.last, "group"),
+        Kinds::Older => format!("centre {}", plan.last),
+    };
+    let head = format!("job {}: {}, {last}", plan.job, some(plan.runs, "run"));
     let figures = format!("trench {} dm, saved {} dm, pits {}", plan.trench, plan.saved, plan.pits);
     for words in [head, figures] {
         assert!(all.iter().any(|element| element.name == "text" && element.text == words), "`{words}` is there");
@@ -169,13 +180,90 @@ fn assert_drawing(job: &Job, plan: &PlanBook, document: &str) {
     assert_eq!(of("path", "scale").len(), 1, "a scale");
 }
 
+/// The colours that groups have by turns.
+const COLOURS: usize = 6;
+
+/// The groups of a plan in the order of their first routes: the centre that its routes name.
+fn groups(plan: &PlanBook) -> Vec<u16> {
+    let mut centres: Vec<u16> = Vec::new();
+    for route in &plan.routes {
+        if !centres.contains(&route.centre) {
+            centres.push(route.centre);
+        }
+    }
+    centres
+}
+
+/// The class of a group's colour.
+fn colour(plan: &PlanBook, centre: u16) -> String {
+    let at = groups(plan).iter().position(|&known| known == centre).expect("a group of the plan");
+    format!("g{}", at % COLOURS)
+}
+
+/// The classes of an element that tell colours.
+fn colours(element: &Element) -> Vec<&str> {
+    let is_colour = |class: &&str| class.strip_prefix('g').is_some_and(|digits| digits.parse::<u8>().is_ok());
+    element.attributes.get("class").map_or(Vec::new(), |classes| classes.split(' ').filter(is_colour).collect())
+}
+
+/// Every group has a line in the foot with its colour, its centre and its number of runs, in their order; an older plan has none.
+fn assert_legend(plan: &PlanBook, all: &[Element]) {
+    let drawn: Vec<(&str, &str)> = all
+        .windows(2)
+        .filter(|pair| pair[0].has_class("key") && !colours(&pair[0]).is_empty())
+        .map(|pair| (colours(&pair[0])[0], pair[1].text.as_str()))
+        .collect();
+    if plan.kinds == Kinds::Older {
+        assert!(drawn.is_empty(), "no groups are told of an older plan");
+        return;
+    }
+    let told = |&centre: &u16| {
+        let runs = plan.routes.iter().filter(|route| route.centre == centre).count();
+        (colour(plan, centre), format!("centre {centre}: {runs} run{}", if runs == 1 { "" } else { "s" }))
+    };
+    let due: Vec<(String, String)> = groups(plan).iter().map(told).collect();
+    let due: Vec<(&str, &str)> = due.iter().map(|(colour, text)| (colour.as_str(), text.as_str())).collect();
+    assert_eq!(drawn, due, "the groups in the foot");
+    let sheet = all.last().expect("the root");
+    for line in all.iter().filter(|element| element.has_class("key") && element.name == "line") {
+        let (x, y) = (line.number("x2"), line.number("y2"));
+        assert!(x < sheet.number("width") && y < sheet.number("height"), "the foot is on the sheet");
+    }
+}
+
+/// Every route is drawn once, in its group's colour, and says whose it is: first those that are no centres, then the centres.
+fn assert_routes(plan: &PlanBook, view: &View, drawn: &[&Element]) {
+    let (centres, others): (Vec<_>, Vec<_>) = plan.routes.iter().partition(|route| route.run == route.centre);
+    assert_eq!(drawn.len(), plan.routes.len(), "every route is drawn once");
+    for (element, route) in drawn.iter().zip(others.into_iter().chain(centres)) {
+        let centre = route.run == route.centre;
+        assert_eq!((element.has_class("centre"), element.has_class("route")), (centre, !centre), "run {}", route.run);
+        assert_eq!(colours(element), [colour(plan, route.centre)], "run {}", route.run);
+        let of = if centre { "centre of group" } else { "group" };
+        assert_eq!(element.text, format!("run {}, {of} {}", route.run, route.centre));
+        assert_points(view, route, element);
+    }
+}
+
+/// The corners of a route that is drawn as a line.
+fn assert_points(view: &View, route: &RouteRecord, drawn: &Element) {
+    let points: Vec<&str> = drawn.attribute("points").split(' ').collect();
+    assert_eq!(points.len(), route.corners.len());
+    for (&corner, point) in route.corners.iter().zip(points) {
+        let (x, y) = point.split_once(',').expect("a point");
+        view.assert_drawn(corner, x.parse().expect("a number"), y.parse().expect("a number"), "route");
+    }
+}
+
 /// The sheet of a plan without routes: its number and its figures, and nothing of a map but the key.
 fn assert_blank(plan: &PlanBook, all: &[Element]) {
-    let classes = ["survey", "trench", "centre", "pit", "crossing", "end", "label", "scale"];
+    let classes = ["survey", "trench", "route", "centre", "pit", "crossing", "end", "label", "scale"];
     let drawn =
         all.iter().filter(|element| !element.has_class("key") && classes.iter().any(|class| element.has_class(class)));
     let drawn: Vec<&str> = drawn.map(|element| element.name.as_str()).collect();
-    assert_eq!(drawn, ["line"], "the key's line of a centre");
+    let key = if plan.kinds == Kinds::Older { &["line"][..] } else { &[] };
+    assert_eq!(drawn, key, "the key's line of a centre in an older plan");
+    assert_legend(plan, all);
     let figures = format!("trench {} dm, saved {} dm, pits {}", plan.trench, plan.saved, plan.pits);
     for words in [format!("job {}: no runs", plan.job), figures] {
         assert!(all.iter().any(|element| element.name == "text" && element.text == words), "`{words}` is there");
@@ -208,17 +296,13 @@ fn assert_trenches(plan: &PlanBook, view: &View, trenches: &[&Element]) {
     assert_eq!((dug, laid), (union(&plan.routes), each), "all trenches and all cables are drawn");
 }
 
-/// The centre's route is drawn as a line; in a stored plan any number of routes may have the centre's number.
+/// Of an older plan the centre's route is drawn as a line; in a stored plan any number of routes may have the centre's number.
 fn assert_centre(plan: &PlanBook, view: &View, drawn: &[&Element]) {
-    let routes: Vec<&RouteRecord> = plan.routes.iter().filter(|route| route.run == plan.centre).collect();
+    let routes: Vec<&RouteRecord> = plan.routes.iter().filter(|route| route.run == plan.last).collect();
     assert_eq!(drawn.len(), routes.len(), "the centre");
     for (centre, route) in drawn.iter().zip(routes) {
-        let points: Vec<&str> = centre.attribute("points").split(' ').collect();
-        assert_eq!(points.len(), route.corners.len());
-        for (&corner, point) in route.corners.iter().zip(points) {
-            let (x, y) = point.split_once(',').expect("a point");
-            view.assert_drawn(corner, x.parse().expect("a number"), y.parse().expect("a number"), "centre");
-        }
+        assert!(centre.has_class("centre") && colours(centre).is_empty());
+        assert_points(view, route, centre);
     }
 }
 
@@ -233,12 +317,19 @@ fn assert_ends(job: &Job, plan: &PlanBook, view: &View, drawn: &[&Element]) {
         let there: Vec<_> = job.runs.iter().filter(|run| run.first == p || run.second == p).collect();
         let numbers: Vec<String> = there.iter().map(|run| run.number.to_string()).collect();
         assert_eq!(label.text, numbers.join(","), "the label at {p:?}");
-        let centre = there.iter().any(|run| run.number == plan.centre);
-        assert_eq!(
-            (end.has_class("of-centre"), label.has_class("of-centre")),
-            (centre, centre),
-            "the centre is told apart"
-        );
+        let here = |route: &&RouteRecord| [route.corners[0], route.corners[route.corners.len() - 1]].contains(&p);
+        let routes: Vec<&RouteRecord> = plan.routes.iter().filter(here).collect();
+        let is_centre = |route: &&RouteRecord| match plan.kinds {
+            Kinds::Newer => route.run == route.centre,
+            Kinds::Older => route.run == plan.last,
+        };
+        let centre = routes.iter().any(is_centre);
+        let one_group = plan.kinds == Kinds::Newer && routes.iter().all(|route| route.centre == routes[0].centre);
+        let due = if one_group { vec![colour(plan, routes[0].centre)] } else { Vec::new() };
+        for element in [end, label] {
+            assert_eq!(element.has_class("of-centre"), centre, "a centre at {p:?} is told apart");
+            assert_eq!(colours(element), due, "the group at {p:?}");
+        }
         let across = label.number("x") - end.number("cx");
         let down = label.number("y") - end.number("cy");
         let width = 9.0 * label.text.len() as f64;
@@ -257,7 +348,7 @@ fn drawn(map: &Path, words: &[&str], bytes: &[u8]) -> String {
 
 /// A job is drawn, with as many pits as its plan says, and its plan, stored and drawn again, gives the same drawing.
 fn assert_drawn(map: &Path, bytes: &[u8]) {
-    let job = verdict(bytes).expect("a star");
+    let job = verdict(bytes).expect("every group is a star");
     let plan = planned(bytes).expect("a plan");
     let document = drawn(map, &["-"], bytes);
     assert_drawing(&job, &plan, &document);
@@ -314,6 +405,46 @@ fn stars_are_drawn() {
     }
 }
 
+/// Leases, with their groups told apart: many groups, groups that touch, and more groups than there are colours.
+#[test]
+fn leases_are_drawn() {
+    let map = map();
+    let mut most = 0;
+    for n in 0..54 {
+        let mut random = Random::nth(30, n);
+        let layout = LAYOUTS[n as usize % LAYOUTS.len()];
+        let job = if n % 18 == 17 { leases::full_lease(&mut random) } else { leases::lease(&mut random, layout) };
+        assert_drawn(map, &job_bytes(&job));
+        most = most.max(groups(&planned(&job_bytes(&job)).expect("a plan")).len());
+    }
+    assert!(most > 2 * COLOURS, "there are many groups: {most}");
+}
+
+/// A drawing told in the simplest case, so that the test above cannot be as blind as the program.
+#[test]
+fn three_groups_element_by_element() {
+    let job = line::parse("0,0 2,2; 2,2 4,4; 7,7 7,7; 2,2 4,4", 9).expect("a job line").expect("a job");
+    let document = drawn(map(), &["-"], &job_bytes(&job));
+    for words in [
+        "<polyline class=\"centre g0\"",
+        "<title>run 1, centre of group 1</title>",
+        "<polyline class=\"centre g1\"",
+        "<title>run 2, centre of group 2</title>",
+        "<polyline class=\"route g1\"",
+        "<title>run 4, group 2</title>",
+        "<title>run 3, centre of group 3</title>",
+        "<circle class=\"end of-centre g2\"",
+        "<text class=\"label of-centre g2\"",
+        "<circle class=\"end of-centre\"",
+        ">job 9: 4 runs, 3 groups</text>",
+        ">centre 2: 2 runs</text>",
+        ">centre 3: 1 run</text>",
+    ] {
+        assert!(document.contains(words), "`{words}` is there");
+    }
+    assert!(document.contains(">1,2,4</text>"), "runs of two groups end where these touch");
+}
+
 #[test]
 fn crossings_are_drawn() {
     let map = map();
@@ -334,10 +465,11 @@ fn an_earlier_plan_is_drawn_with_its_crossings() {
     let job = job_bytes(&line::parse("0,0 4,2; 0,1 4,1; 2,0 2,2", 7).expect("a job line").expect("a job"));
     let plan = planned(&job).expect("a plan");
     assert_eq!((plan.pits, pits_of(&plan).crossings), (7, vec![Point::new(2, 1)]));
-    let earlier = PlanBook { pits: 6, ..plan };
+    let later = plan.as_older();
+    let earlier = PlanBook { pits: 6, ..later.clone() };
     assert_stored(map, &earlier);
     let drawing = drawn(map, &["--plan", "-"], &earlier.bytes());
-    assert_eq!(drawing.replace("pits 6", "pits 7"), drawn(map, &["-"], &job));
+    assert_eq!(drawing.replace("pits 6", "pits 7"), drawn(map, &["--plan", "-"], &later.bytes()));
 }
 
 #[test]
@@ -408,7 +540,7 @@ fn samples_are_clicked() {
             counts[usize::from(verdict(&bytes).is_ok())] += 1;
         }
     }
-    assert!(counts[0] > 2 && counts[1] > 10, "no stars, and stars: {counts:?}");
+    assert!(counts[0] > 1 && counts[1] > 10, "no stars, and stars: {counts:?}");
 }
 
 #[test]
@@ -417,6 +549,9 @@ fn stars_are_clicked() {
     for n in 0..26 {
         let mut random = Random::nth(28, n);
         let mut job = generate::star(&mut random, KINDS[n as usize % KINDS.len()]);
+        job.runs.iter_mut().zip(1..).for_each(|(run, number)| run.number = number);
+        assert_clicked(&job, &book);
+        let mut job = leases::lease(&mut random, LAYOUTS[n as usize % LAYOUTS.len()]);
         job.runs.iter_mut().zip(1..).for_each(|(run, number)| run.number = number);
         assert_clicked(&job, &book);
     }
@@ -515,7 +650,7 @@ fn job_books_that_are_there() {
 #[test]
 fn stored_samples_are_drawn_or_refused() {
     let map = map();
-    for path in samples("plan") {
+    for path in samples("plan").into_iter().chain(older_samples("plan")) {
         let bytes = std::fs::read(&path).expect("a sample");
         match PlanBook::read(&bytes) {
             Ok(book) => assert_stored(map, &book),
@@ -524,11 +659,12 @@ fn stored_samples_are_drawn_or_refused() {
     }
 }
 
-/// The stored pictures are what the stored plans draw, whichever least plans the archive finds.
+/// The stored pictures are what the stored plans draw, whichever least plans the archive finds; those of older plans are as they
+/// were drawn before there were groups.
 #[test]
 fn pictures_of_the_samples() {
     let map = map();
-    for path in samples("svg") {
+    for path in samples("svg").into_iter().chain(older_samples("svg")) {
         let picture = std::fs::read_to_string(&path).expect("a sample");
         let plan = path.with_extension("plan");
         assert_eq!(drawn(map, &["--plan", plan.to_str().expect("a name")], &[]), picture, "{}", path.display());
@@ -543,7 +679,7 @@ fn strange_plans_are_drawn() {
     for n in 0..40 {
         let mut random = Random::nth(23, n);
         let routes = [0, 1, 2, 3, 5, 9, MOST_RUNS][n as usize % 7];
-        assert_stored(map, &made_up(&mut random, routes));
+        assert_stored(map, &made_up(&mut random, BOTH_KINDS[n as usize / 7 % 2], routes));
     }
 }
 
@@ -560,16 +696,15 @@ fn special_plans_are_drawn() {
 #[test]
 fn a_plan_of_the_most_lines_is_drawn() {
     let map = map();
-    let mut book = made_up(&mut Random::nth(24, 0), 0);
+    let mut book = made_up(&mut Random::nth(24, 0), Kinds::Newer, 0);
     let place = |i: i32, k: i32| if i % 2 == 0 { -FAR + 900 * k + i } else { FAR - 900 * k - i };
     for i in 0..MOST_RUNS as i32 {
         let corner = |j: i32| Point::new(place(i, (j + 1) / 2), place(i + 2, j / 2));
-        book.routes.push(route(i as u16 / 3, 0, (0..MOST_CORNERS as i32).map(corner).collect()));
+        book.routes.push(route(i as u16 / 3, 0, i as u16 / 5, (0..MOST_CORNERS as i32).map(corner).collect()));
     }
-    book.centre = 1;
     count(&mut book);
     let lines: BTreeSet<i32> = book.routes.iter().flat_map(|route| route.corners.iter().map(|p| p.x)).collect();
-    assert_eq!((lines.len(), book.bytes().len()), (2_048, 36_822));
+    assert_eq!((lines.len(), book.bytes().len()), (2_048, LONGEST_PLAN));
     assert_stored(map, &book);
 }
 
@@ -579,7 +714,7 @@ fn crowded_plans_are_drawn() {
     let map = map();
     for n in 0..20 {
         let mut random = Random::nth(25, n);
-        let mut book = made_up(&mut random, 0);
+        let mut book = made_up(&mut random, Kinds::Newer, 0);
         for i in 0..MOST_RUNS {
             let mut here = Point::new(random.from(0, 3), random.from(0, 3));
             let mut corners = vec![here];
@@ -588,7 +723,7 @@ fn crowded_plans_are_drawn() {
                 *field = (*field + random.from(1, 3)) % 4;
                 corners.push(here);
             }
-            book.routes.push(route(i as u16 / 2, 0, corners));
+            book.routes.push(route(i as u16 / 2, 0, i as u16 / 4, corners));
         }
         count(&mut book);
         assert_stored(map, &book);
@@ -602,10 +737,10 @@ fn damaged_plan_books_are_refused_with_their_place() {
         let made = book_damage::damaged(&mut Random::nth(26, n as u64), n % book_damage::WAYS);
         assert_told(map, &made.bytes, made.refusal, made.what);
     }
-    let longest = (0..).map(|n| book_case(0, n).bytes).find(|bytes| bytes.len() == 36_822).expect("the longest book");
+    let longest = (0..).map(|n| book_case(0, n).bytes).find(|bytes| bytes.len() == LONGEST_PLAN).expect("a book");
     for more in [1, 5_000, 100_000] {
         let bytes = [&longest[..], &vec![0x43; more]].concat();
-        assert_told(map, &bytes, refusal::Refusal { number: 12, place: 36_822 }, "bytes after the longest book");
+        assert_told(map, &bytes, refusal::Refusal { number: 12, place: LONGEST_PLAN }, "bytes after the longest book");
     }
     let job = std::fs::read(root().join("samples/job-7.job")).expect("a sample");
     assert_told(map, &job, refusal::Refusal { number: 12, place: 0 }, "a job book");

@@ -4,7 +4,7 @@ mod common;
 
 use std::path::Path;
 
-use common::{planned, run, samples, text};
+use common::{older_samples, planned, run, samples, text};
 use trench_archive::call::{Against, GuardedReader, GuardedWriter, JobWriter, Reader, plan_place};
 use trench_check::book::job_bytes;
 use trench_check::job::{Job, Point};
@@ -12,8 +12,8 @@ use trench_check::job_list::list_of;
 use trench_check::judge::judge;
 use trench_check::listing;
 use trench_check::pits;
-use trench_check::plan_book::{PlanBook, RouteRecord};
-use trench_check::read_back::{Asker, PLACES, Question, listed};
+use trench_check::plan_book::{Kinds, PlanBook, RouteRecord};
+use trench_check::read_back::{Asker, FIGURES, PLACES, Question, ROUTE_WORDS, listed};
 use trench_check::refusal::{self, PLAN_ROOM, Refusal, verdict, words};
 use trench_check::text::{parse, why_no_star};
 use trench_check::write_job::Writer;
@@ -27,8 +27,8 @@ fn read(path: &Path) -> String {
 }
 
 /// The figures that are the same in every least plan.
-fn figures(book: &PlanBook) -> (u32, u32, u16, Vec<u16>) {
-    (book.trench, book.saved, book.centre, book.routes.iter().map(|route| route.meets).collect())
+fn figures(book: &PlanBook) -> (u32, u32, u16, Vec<(u16, u16)>) {
+    (book.trench, book.saved, book.last, book.routes.iter().map(|route| (route.meets, route.centre)).collect())
 }
 
 #[test]
@@ -54,7 +54,7 @@ fn job_books_are_written_from_their_runs() {
         assert_eq!(out, bytes, "{}", path.display());
         stars[usize::from(verdict(&bytes).is_ok())] += 1;
     }
-    assert!(stars[0] > 2 && stars[1] > 10, "stars and others: {stars:?}");
+    assert!(stars[0] > 1 && stars[1] > 10, "stars and others: {stars:?}");
 }
 
 /// Several least plans may exist, so a stored listing need not be the archive's: it must be a right one, with the same figures.
@@ -87,30 +87,32 @@ fn read_by_the_archive(bytes: &[u8]) -> Result<PlanBook, Refusal> {
         let place = asker.ask(Question::ReadPlace, &mut []).answer as usize;
         return Err(Refusal { number: -number as i32, place });
     }
-    let mut figures = [0; 6];
+    let mut figures = [0; FIGURES];
     let mut places = [0; PLACES];
-    assert_eq!(asker.ask(Question::Figures, &mut figures).answer, 6);
+    assert_eq!(asker.ask(Question::Figures, &mut figures).answer, FIGURES as i64);
     assert_eq!(asker.ask(Question::Places, &mut places).answer, PLACES as i64);
-    let [job, runs, trench, saved, pits, centre] = figures;
-    let (runs, pits, centre) = (runs as u16, pits as u16, centre as u16);
-    let mut book = PlanBook { job, runs, trench, saved, pits, centre, routes: Vec::new(), total: 0 };
-    let mut route = [0; 3];
-    while asker.ask(Question::Route(&places, book.routes.len()), &mut route).answer == 3 {
-        let [run, meets, count] = route.map(|field| field as u16);
+    let [job, runs, trench, saved, pits, last, kind] = figures;
+    let kinds = if kind == 0x51 { Kinds::Newer } else { Kinds::Older };
+    assert_eq!(kind, kinds.head().into(), "the kind of a head");
+    let (runs, pits, last) = (runs as u16, pits as u16, last as u16);
+    let mut book = PlanBook { kinds, job, runs, trench, saved, pits, last, routes: Vec::new(), total: 0 };
+    let mut route = [0; ROUTE_WORDS];
+    while asker.ask(Question::Route(&places, book.routes.len()), &mut route).answer == ROUTE_WORDS as i64 {
+        let [run, meets, count, centre] = route.map(|field| field as u16);
         let mut corners = Vec::new();
         let mut corner = [0; 2];
         while asker.ask(Question::Corner(&places, book.routes.len(), corners.len()), &mut corner).answer == 2 {
             corners.push(Point::new(corner[0] as i32, corner[1] as i32));
         }
         book.total += count;
-        book.routes.push(RouteRecord { run, meets, count, corners });
+        book.routes.push(RouteRecord { run, meets, count, centre, corners });
     }
     assert_eq!(book.routes.len() as i64, number);
     assert_eq!(asker.give_back(), None);
     Ok(book)
 }
 
-/// The plan books `earlier-NAME` are plans of `NAME` that were written when crossings did not count as pits.
+/// The older plan books `earlier-NAME` are plans of `NAME` that were written when crossings did not count as pits.
 const EARLIER: &str = "earlier-";
 
 /// The file name of a sample.
@@ -126,8 +128,7 @@ fn stored_plans_are_what_is_listed() {
         assert_eq!(listed(&plan), read(&path.with_extension("lst")), "{}", path.display());
         let by_archive = read_by_the_archive(&plan);
         assert_eq!(by_archive, PlanBook::read(&plan), "{}", path.display());
-        let job = path.with_file_name(name(&path).trim_start_matches(EARLIER)).with_extension("job");
-        assert!(by_archive.is_err() || job.exists(), "{}: whose plan is it?", path.display());
+        assert!(by_archive.is_err() || path.with_extension("job").exists(), "{}: whose plan is it?", path.display());
     }
     for path in samples("job") {
         let job = std::fs::read(&path).expect("a sample");
@@ -139,20 +140,65 @@ fn stored_plans_are_what_is_listed() {
     }
 }
 
-/// An earlier plan is read as it is, and differs from today's in its pits alone: there the crossings are missing.
+/// The job of an older plan, which was one star or blank.
+fn job_of_older(path: &Path) -> Vec<u8> {
+    let folder = path.parent().and_then(Path::parent).expect("the folder of samples");
+    let job = folder.join(name(path).trim_start_matches(EARLIER)).with_extension("job");
+    std::fs::read(&job).unwrap_or_else(|error| panic!("{}: {error}", job.display()))
+}
+
+/// The plan that an older one would be today: its head counts the groups, of which there is one, or none, and each route names the
+/// centre.
+fn as_of_today(older: &PlanBook) -> PlanBook {
+    let routes = older.routes.iter().map(|route| RouteRecord { centre: older.last, ..route.clone() }).collect();
+    PlanBook { kinds: Kinds::Newer, last: older.routes.len().min(1) as u16, routes, ..older.clone() }
+}
+
+/// The plans that were written before there were groups are read and listed as they were, byte for byte, and are right today but
+/// for their kinds; those that were written before crossings counted as pits, but for their pits besides.
 #[test]
-fn earlier_plans_are_read() {
-    let earlier: Vec<_> = samples("plan").into_iter().filter(|path| name(path).starts_with(EARLIER)).collect();
-    assert!(!earlier.is_empty());
-    for path in earlier {
-        let today = path.with_file_name(name(&path).trim_start_matches(EARLIER));
-        let book = |path: &Path| read_by_the_archive(&std::fs::read(path).expect("a sample")).expect("a plan");
-        let (was, is) = (book(&path), book(&today));
-        let routes: Vec<&[Point]> = was.routes.iter().map(|route| &route.corners[..]).collect();
-        let pits = pits::of_corners(&routes);
-        assert_eq!((was.pits.into(), is.pits.into()), (pits.corners.len(), pits.count()), "{}", path.display());
-        assert!(was.pits < is.pits, "{}: nothing crosses", path.display());
-        assert_eq!(PlanBook { pits: is.pits, ..was }, is, "{}", path.display());
+fn older_plans_are_read() {
+    let mut earlier = 0;
+    for path in older_samples("plan") {
+        let bytes = std::fs::read(&path).expect("a sample");
+        assert_eq!(listed(&bytes), read(&path.with_extension("lst")), "{}", path.display());
+        let book = read_by_the_archive(&bytes).unwrap_or_else(|refused| panic!("{}: {refused}", path.display()));
+        assert_eq!((Ok(&book), book.kinds), (PlanBook::read(&bytes).as_ref(), Kinds::Older), "{}", path.display());
+        assert_eq!(book.bytes(), bytes, "{}", path.display());
+        let faults = judge(&job_of_older(&path), &as_of_today(&book).bytes());
+        let drawn: Vec<&[Point]> = book.routes.iter().map(|route| &route.corners[..]).collect();
+        let pits = pits::of_corners(&drawn);
+        if name(&path).starts_with(EARLIER) {
+            earlier += 1;
+            assert_eq!(usize::from(book.pits), pits.corners.len(), "{}", path.display());
+            let told = format!("pits is {} and should be {}", book.pits, pits.count());
+            assert_eq!(faults, [told], "{}", path.display());
+        } else {
+            assert_eq!(faults, Vec::<String>::new(), "{}", path.display());
+        }
+        let kinds = judge(&job_of_older(&path), &bytes);
+        assert_eq!(kinds.first().map(String::as_str), Some("the plan has the older kinds"), "{}", path.display());
+    }
+    assert!(earlier > 0 && older_samples("plan").len() > 15, "all plans of before are there");
+}
+
+/// Leases of several groups: how many, trench and saved; or none where one is no star.
+#[test]
+fn the_samples_of_groups() {
+    let outcomes = [
+        ("groups-1-three-huts", Some((3, 8_500, 3_300))),
+        ("groups-2-corner", Some((3, 110, 50))),
+        ("groups-3-inside", Some((3, 300, 70))),
+        ("groups-4-no-star", None),
+        ("groups-5-single-runs", Some((32, 3_200, 0))),
+    ];
+    let found: Vec<String> = samples("job").iter().map(|path| name(path).to_string()).collect();
+    assert_eq!(found.iter().filter(|name| name.starts_with("groups-")).count(), outcomes.len());
+    for (name, outcome) in outcomes {
+        let path = Path::new(env!("CARGO_MANIFEST_DIR")).join(format!("../../samples/{name}.job"));
+        let plan = planned(&std::fs::read(&path).unwrap_or_else(|error| panic!("{}: {error}", path.display())));
+        let figures = plan.clone().ok().map(|plan| (plan.last, plan.trench, plan.saved));
+        assert_eq!((figures, plan.err()), (outcome, outcome.is_none().then_some(-11)), "{name}");
     }
 }
 
@@ -162,11 +208,13 @@ fn the_surveyed_examples_of_document_01() {
         1 => Some((0, 0)),
         2 => Some((7, 0)),
         3 => Some((7, 7)),
+        5 => Some((10, 0)),
         6 => Some((9, 3)),
         7 => Some((10, 4)),
         8 => Some((7, 2)),
         9 => Some((16, 8)),
         10 => Some((10, 3)),
+        11 => Some((8, 0)),
         12 => Some((5, 1)),
         _ => None,
     };

@@ -11,14 +11,16 @@ use trench_check::damage::{self, Damaged};
 use trench_check::enumerate;
 use trench_check::generate::{self, CROSSINGS, KINDS};
 use trench_check::graph::Survey;
+use trench_check::grouped;
 use trench_check::in_out;
 use trench_check::job::Job;
 use trench_check::judge::judge;
+use trench_check::leases::{self, LAYOUTS};
 use trench_check::line;
 use trench_check::list_line;
 use trench_check::listing;
 use trench_check::plan_book::PlanBook;
-use trench_check::planner;
+use trench_check::planner::{self, group_by_group};
 use trench_check::random::Random;
 use trench_check::read_back;
 use trench_check::refusal;
@@ -27,9 +29,10 @@ use trench_check::refusal;
 const SEQUENCES: usize = 4_000_000;
 
 const USAGE: &str = "\
-usage: trench-check jobs SEED COUNT      small star jobs of every kind, one a line
+usage: trench-check jobs SEED COUNT      small stars and leases of every kind, one a line
        trench-check crossed SEED COUNT   small stars of straight leaves that cross, likewise
        trench-check figures [FILE]       the figures of each job of a file of such lines
+       trench-check grouped [FILE]       lines, meets, groups and centres of each job of a file of numbers
        trench-check books [FILE]         the job book of each, in hexadecimal
        trench-check cases                the case of every two boxes with corners on a grid of 4 x 4 points
        trench-check damaged SEED COUNT   damaged job books in hexadecimal, with the refusal that is due
@@ -48,6 +51,8 @@ fn main() -> ExitCode {
         ["crossed", seed, count] => numbers(seed, count).map(|(seed, count)| crossed(seed, count)),
         ["figures"] => each_job(None, figures),
         ["figures", file] => each_job(Some(file), figures),
+        ["grouped"] => each_line(None, print_grouped),
+        ["grouped", file] => each_line(Some(file), print_grouped),
         ["books"] => each_job(None, |job| book::hex(&book::job_bytes(job))),
         ["books", file] => each_job(Some(file), |job| book::hex(&book::job_bytes(job))),
         ["cases"] => {
@@ -84,8 +89,14 @@ fn numbers(seed: &str, count: &str) -> Result<(u64, u64), String> {
 
 fn jobs(seed: u64, count: u64) {
     for n in 0..count {
-        let kind = KINDS[(n % KINDS.len() as u64) as usize];
-        println!("{}  # {kind:?}", line::show(&generate::small_star(&mut Random::nth(seed, n), kind)));
+        let (at, random) = (n as usize % (KINDS.len() + LAYOUTS.len()), &mut Random::nth(seed, n));
+        match KINDS.get(at) {
+            Some(&kind) => println!("{}  # {kind:?}", line::show(&generate::small_star(random, kind))),
+            None => {
+                let layout = LAYOUTS[at - KINDS.len()];
+                println!("{}  # {layout:?} lease", line::show(&leases::small_lease(random, layout)));
+            }
+        }
     }
 }
 
@@ -113,7 +124,7 @@ fn read(name: &str) -> Result<Vec<u8>, String> {
 
 fn list(job: &str) -> Result<(), String> {
     match refusal::verdict(&read(job)?) {
-        Ok(job) => print!("{}", listing::of_plan(&PlanBook::of(&job, &planner::plan(&job).expect("a star")))),
+        Ok(job) => print!("{}", listing::of_plan(&PlanBook::of(&job, &planner::plan(&job).expect("stars")))),
         Err(refused) => print!("{}", listing::of_refusal(refused)),
     }
     Ok(())
@@ -164,22 +175,25 @@ fn each_list(file: Option<&str>) -> Result<(), String> {
     })
 }
 
+fn print_grouped(words: &str) -> Result<(), String> {
+    println!("{}", grouped::told(&grouped::parse(words)?));
+    Ok(())
+}
+
 fn figures(job: &Job) -> String {
-    let Survey { grid, graph, .. } = Survey::of(job.clone());
-    let centre = graph.centre();
+    let survey = Survey::of(job.clone());
     let ways = [
-        ("all", enumerate::all(job, &grid, SEQUENCES)),
-        ("each", centre.and_then(|centre| enumerate::each(job, &grid, centre, SEQUENCES))),
-        ("graph", centre.map(|centre| in_out::least(job, centre))),
+        ("all", enumerate::all(job, &survey.grid, SEQUENCES)),
+        ("each", group_by_group(&survey, |runs, grid, centre| enumerate::each(runs, grid, centre, SEQUENCES))),
+        ("graph", group_by_group(&survey, |runs, grid, centre| Some(in_out::least(runs, grid, centre)))),
     ];
     let ran: Vec<(&str, i64)> = ways.iter().filter_map(|(name, least)| Some((*name, least.as_ref()?.trench))).collect();
     assert!(ran.windows(2).all(|pair| pair[0].1 == pair[1].1), "the ways disagree: {ran:?} for {}", line::show(job));
-    let meets: Vec<String> = graph.figures().iter().map(usize::to_string).collect();
-    let centre = centre.map_or("none".to_string(), |index| index.to_string());
     let (trench, saved) = match ran.first() {
         Some((_, trench)) => (trench.to_string(), (job.distance() - trench).to_string()),
         None => ("unknown".to_string(), "unknown".to_string()),
     };
     let by: Vec<&str> = ran.iter().map(|(name, _)| *name).collect();
-    format!("meets {} | centre {centre} | trench {trench} | saved {saved} | by {}", meets.join(" "), by.join(" "))
+    let [meets, groups, centres] = grouped::fields(&survey.graph);
+    format!("{meets} | {groups} | {centres} | trench {trench} | saved {saved} | by {}", by.join(" "))
 }

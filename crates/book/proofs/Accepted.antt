@@ -1,5 +1,6 @@
 -- What stands in a book that is accepted, and the queries by its places: `route-by-places`, `corner-by-places`.
 use mathlib.Core.Path.{_≡_, refl, sym, ap, _∙_}
+use mathlib.Core.Bool.{Bool}
 use mathlib.Core.List.{List, [], _∷_, _++_}
 use Prim.Native.Nat.{ℕ, zero, suc, _+_, _-_, _*_, _≤_, _<_}
 use native.Mathlib.Nat.{add-zero}
@@ -16,6 +17,7 @@ use Rattle.job.specs.Written.{Bytes}
 use Rattle.job.proofs.Fields.{bytes-drop}
 use Rattle.job.proofs.Signed.{signed-decimetres}
 use Rattle.plan.specs.declared.Head.{Head}
+use Rattle.plan.specs.Records.{routeSize}
 use Rattle.plan.specs.Plan.{Entry}
 use Rattle.records.specs.declared.Record.{Record}
 use Rattle.records.specs.declared.Record.the-variants as rec
@@ -27,8 +29,9 @@ use Rattle.book.specs.declared.Reading.{Reading}
 use Rattle.book.specs.declared.Walk.{Walk}
 use Rattle.book.specs.declared.Route.the-variants as route
 use Rattle.book.specs.declared.Spot.the-variants as spot
-use Rattle.book.specs.Parse.{Parsed, accepted, refused, start, Told, Rest, rest, stopped, restOf, entriesOf, parseBy, parsePlan}
-use Rattle.book.specs.Reading.{routeIn, routeOf, spotIn, cornerIn, cornerOf, places, padded, placesOf, readingOf, asRoute, routeBy, asSpot, cornerBy}
+use Rattle.book.specs.Parse.{Parsed, accepted, refused, start, Told, Rest, rest, stopped, isGrouped, restOf, entriesOf, parseBy, parsePlan}
+use Rattle.book.specs.Reading.{routeIn, routeOf, spotIn, cornerIn, cornerOf, places, padded, placesOf, readingOf, asRoute, routeBy, asSpot, cornerPlace, cornerBy}
+use Rattle.book.proofs.Taken.{head-grouped}
 use Rattle.book.proofs.Places.{CornerAt, CornersAt, RoutesAt, Reads}
 use Rattle.book.proofs.Summary.{length-places}
 use Rattle.book.proofs.Stands.{Stands, placed}
@@ -40,12 +43,12 @@ pub record Accepts (s : List ℕ) (h : Head) (es : List Entry) : Type 0 where
   pub told : List Told
   pub entries : entriesOf told ≡ es
   pub head : recordOf s ≡ rec.Head h
-  pub held : RoutesAt s 19 start told
+  pub held : RoutesAt s 19 (start (h .grouped)) told
   pub few : length told ≤ 32
   pub runs : h .runs ≡ length told
   pub right : All RightCount told
 
-accepts-by : (s : List ℕ) (g : Record) (k : Rest) (h : Head) (es : List Entry) → recordOf s ≡ g → ((f : Head) → g ≡ rec.Head f → Reads s 19 start k)
+accepts-by : (s : List ℕ) (g : Record) (k : Rest) (h : Head) (es : List Entry) → recordOf s ≡ g → ((f : Head) → g ≡ rec.Head f → Reads s 19 (start (f .grouped)) k)
     → parseBy g k ≡ accepted h es → Accepts s h es
 unfolding parseBy
 accepts-by s (rec.Head g) (rest cs ts total) h es r reads e =
@@ -56,13 +59,13 @@ accepts-by s (rec.Head g) (rest cs ts total) h es r reads e =
       told = ts;
       entries = a .entries;
       head = r ∙ ap rec.Head (a .head);
-      held = rw (m, t .first refl) at (t .routes);
+      held = rw (m, t .first refl, a .head) at (t .routes);
       few = omega (arith, t .few);
       runs = ap (λ (f : Head). f .runs) (sym (a .head)) ∙ a .runs;
       right = a .right;
     }
 accepts-by s (rec.Head g) (stopped x) h es r t e = absurd (not-both x h es e)
-accepts-by s (rec.Route number meets said) k h es r t e = absurd (not-both _ h es e)
+accepts-by s (rec.Route q number meets said centre) k h es r t e = absurd (not-both _ h es e)
 accepts-by s (rec.Corner x y) k h es r t e = absurd (not-both _ h es e)
 accepts-by s (rec.End total) k h es r t e = absurd (not-both _ h es e)
 accepts-by s rec.Other k h es r t e = absurd (not-both _ h es e)
@@ -92,8 +95,8 @@ places-length s = go (parsePlan s) refl
   where
     go : (q : Parsed) → parsePlan s ≡ q → length (placesOf q) ≡ 33
     go (accepted h es) e =
-        let l = places 19 es in
-        omega (arith, accepted-routes s h es e, length-places 19 es, length-append l (replicate (33 - length l) 0), length-replicate {A = ℕ} (33 - length l) 0)
+        let l = places (h .grouped) 19 es in
+        omega (arith, accepted-routes s h es e, length-places (h .grouped) 19 es, length-append l (replicate (33 - length l) 0), length-replicate {A = ℕ} (33 - length l) 0)
     go (refused x) e = refl
 
 -- a reading that is an acceptance is that of its head and some entries
@@ -141,9 +144,9 @@ none-there (suc i) t l e = let z : _≡_ {A = ℕ} 0 1 = cc in omega arith
 
 -- the queries of the route with an index
 told-route : (ts : List Told) (i : ℕ) (t : Told) → drop i ts ≡ t ∷ drop (suc i) ts
-    → routeIn (entriesOf ts) i ≡ route.Found (t .entry .number) (t .entry .meets) (length (t .entry .corners))
+    → routeIn (entriesOf ts) i ≡ route.Found (t .entry .number) (t .entry .meets) (length (t .entry .corners)) (t .entry .centre)
 told-route [] i t e = absurd (none-there i t _ e)
-told-route (u ∷ ts) zero t e = let same : u ≡ t = cc in ap (λ (v : Told). route.Found (v .entry .number) (v .entry .meets) (length (v .entry .corners))) same
+told-route (u ∷ ts) zero t e = let same : u ≡ t = cc in ap (λ (v : Told). route.Found (v .entry .number) (v .entry .meets) (length (v .entry .corners)) (v .entry .centre)) same
 told-route (u ∷ ts) (suc i) t e = told-route ts i t e
 
 told-corner : (ts : List Told) (i : ℕ) (t : Told) (j : ℕ) → drop i ts ≡ t ∷ drop (suc i) ts → cornerIn (entriesOf ts) i j ≡ spotIn (t .entry .corners) j
@@ -191,8 +194,8 @@ beyond (a ∷ l) n zero h = absurd (omega arith)
 beyond (a ∷ l) n (suc i) h = beyond l n i (omega arith)
 
 -- so behind the end's place
-past-place : (es : List Entry) (i : ℕ) → length es ≤ i → getD (padded (places 19 es)) (i + 1) 0 ≡ 0
-past-place es i h = beyond (places 19 es) (33 - length (places 19 es)) (i + 1) (omega (arith, length-places 19 es))
+past-place : (g : Bool) (es : List Entry) (i : ℕ) → length es ≤ i → getD (padded (places g 19 es)) (i + 1) 0 ≡ 0
+past-place g es i h = beyond (places g 19 es) (33 - length (places g 19 es)) (i + 1) (omega (arith, length-places g 19 es))
 
 -- a book that is refused has no places
 no-places : (i : ℕ) → getD (padded []) i 0 ≡ 0
@@ -211,20 +214,20 @@ module _ (s : List ℕ) (i : ℕ) where
           a = accepts s h es e
 
           held : List ℕ
-          held = padded (places 19 (entriesOf (a .told)))
+          held = padded (places (h .grouped) 19 (entriesOf (a .told)))
 
           n : length (entriesOf (a .told)) ≡ length (a .told)
           n = length-map (a .told) (λ (t : Told). t .entry)
 
           by : Dec (i < length (a .told)) → routeBy s held i ≡ routeIn (entriesOf (a .told)) i
           by (yes l) =
-              let k = placed s held (a .told) i refl (a .held) l in
+              let k = placed s (h .grouped) held (a .told) i refl (a .held) l in
               let r = told-right (a .told) i (k .route) (k .here) (a .right) in
               sym (some-route s held i (omega (arith, k .end)))
-              ∙ ap asRoute (k .at .is) ∙ ap (route.Found (k .route .entry .number) (k .route .entry .meets)) (r .said)
+              ∙ ap asRoute (k .at .is) ∙ ap (λ n. route.Found (k .route .entry .number) (k .route .entry .meets) n (k .route .entry .centre)) (r .said)
               ∙ sym (told-route (a .told) i (k .route) (k .here))
           by (no l) =
-              sym (no-route s held i (omega (arith, past-place (entriesOf (a .told)) i (omega (arith, n)))))
+              sym (no-route s held i (omega (arith, past-place (h .grouped) (entriesOf (a .told)) i (omega (arith, n)))))
               ∙ past-routes (entriesOf (a .told)) i (omega (arith, n))
 
   -- so are its corners
@@ -239,22 +242,29 @@ module _ (s : List ℕ) (i : ℕ) where
           a = accepts s h es e
 
           held : List ℕ
-          held = padded (places 19 (entriesOf (a .told)))
+          held = padded (places (h .grouped) 19 (entriesOf (a .told)))
 
           n : length (entriesOf (a .told)) ≡ length (a .told)
           n = length-map (a .told) (λ (t : Told). t .entry)
 
+          same : isGrouped s ≡ h .grouped
+          same = head-grouped s h (a .head)
+
+          kinds : routeSize (isGrouped s) ≡ routeSize (h .grouped)
+          kinds = ap routeSize same
+
           by : Dec (i < length (a .told)) → cornerBy s held i j ≡ cornerIn (entriesOf (a .told)) i j
           by (yes l) =
-              let k = placed s held (a .told) i refl (a .held) l in
+              let k = placed s (h .grouped) held (a .told) i refl (a .held) l in
               sym (told-corner (a .told) i (k .route) j (k .here) ∙ sym (at k (decLt j (length (k .route .entry .corners)))))
             where
-              at : (k : Stands s (a .told) i (getD held i 0) (getD held (i + 1) 0)) → Dec (j < length (k .route .entry .corners))
+              at : (k : Stands s (h .grouped) (a .told) i (getD held i 0) (getD held (i + 1) 0)) → Dec (j < length (k .route .entry .corners))
                   → cornerBy s held i j ≡ spotIn (k .route .entry .corners) j
               at k (yes m) =
-                  sym (some-corner s held i j (omega (arith, k .at .few)) (omega (arith, k .end)))
-                  ∙ corner-at s b (getD held i 0 + 7) _ (k .route .entry .corners) j (k .at .corners) m
-              at k (no m) = sym (no-corner s held i j (omega (arith, k .end))) ∙ past-spots (k .route .entry .corners) j (omega arith)
+                  sym (some-corner s held i j (omega (arith, k .at .few)) (omega (arith, kinds, k .end)))
+                  ∙ ap (λ (g : Bool). asSpot (recordOf (drop (cornerPlace g (getD held i 0) j) s))) same
+                  ∙ corner-at s b (getD held i 0 + routeSize (h .grouped)) _ (k .route .entry .corners) j (k .at .corners) m
+              at k (no m) = sym (no-corner s held i j (omega (arith, kinds, k .end))) ∙ past-spots (k .route .entry .corners) j (omega arith)
           by (no l) =
-              sym (no-corner s held i j (omega (arith, past-place (entriesOf (a .told)) i (omega (arith, n)))))
+              sym (no-corner s held i j (omega (arith, past-place (h .grouped) (entriesOf (a .told)) i (omega (arith, n)))))
               ∙ past-corners (entriesOf (a .told)) i j (omega (arith, n))

@@ -15,20 +15,21 @@ use Rattle.records.specs.Records.{recordOf}
 use Rattle.records.proofs.Record.{the-type}
 use Rattle.book.specs.declared.Route.the-variants as route
 use Rattle.book.specs.declared.Spot.the-variants as spot
+use Rattle.book.specs.Parse.{isGrouped}
 use Rattle.book.specs.Reading.{asRoute, routeBy, asSpot, cornerPlace, cornerBy}
 use Rattle.book.specs.Shape.{saidOf}
 
 -- ---- a record of another kind
 
 pub else-route : (g : Record) → OneOf (0 ∷ 2 ∷ 3 ∷ 4 ∷ []) (tagOf the-type g) → route.Nothing ≡ asRoute g
-else-route (rec.Route number meets said) t = absurd (miss (0 ∷ 2 ∷ 3 ∷ 4 ∷ []) 1 tt t)
+else-route (rec.Route g number meets said centre) t = absurd (miss (0 ∷ 2 ∷ 3 ∷ 4 ∷ []) 1 tt t)
 else-route (rec.Head h) t = refl
 else-route (rec.Corner x y) t = refl
 else-route (rec.End total) t = refl
 else-route rec.Other t = refl
 
 pub else-said : (g : Record) → OneOf (0 ∷ 2 ∷ 3 ∷ 4 ∷ []) (tagOf the-type g) → 0 ≡ saidOf g
-else-said (rec.Route number meets said) t = absurd (miss (0 ∷ 2 ∷ 3 ∷ 4 ∷ []) 1 tt t)
+else-said (rec.Route g number meets said centre) t = absurd (miss (0 ∷ 2 ∷ 3 ∷ 4 ∷ []) 1 tt t)
 else-said (rec.Head h) t = refl
 else-said (rec.Corner x y) t = refl
 else-said (rec.End total) t = refl
@@ -37,7 +38,7 @@ else-said rec.Other t = refl
 pub else-corner : (g : Record) → OneOf (0 ∷ 1 ∷ 3 ∷ 4 ∷ []) (tagOf the-type g) → spot.Nothing ≡ asSpot g
 else-corner (rec.Corner x y) t = absurd (miss (0 ∷ 1 ∷ 3 ∷ 4 ∷ []) 2 tt t)
 else-corner (rec.Head h) t = refl
-else-corner (rec.Route number meets said) t = refl
+else-corner (rec.Route g number meets said centre) t = refl
 else-corner (rec.End total) t = refl
 else-corner rec.Other t = refl
 
@@ -62,16 +63,16 @@ module _ (book places : List ℕ) (i : ℕ) where
     far-corner h = simp (le-ltb j 127 h)
 
     -- the next route's place is not behind the corner's
-    pub no-corner : getD places (i + 1) 0 ≤ cornerPlace (getD places i 0) j → spot.Nothing ≡ cornerBy book places i j
+    pub no-corner : getD places (i + 1) 0 ≤ cornerPlace (isGrouped book) (getD places i 0) j → spot.Nothing ≡ cornerBy book places i j
     no-corner h = go (ltb j 127)
       where
-        go : (b : Bool) → spot.Nothing ≡ cond (b && ltb (cornerPlace (getD places i 0) j) (getD places (i + 1) 0)) (asSpot (recordOf (drop (cornerPlace (getD places i 0) j) book))) spot.Nothing
+        go : (b : Bool) → spot.Nothing ≡ cond (b && ltb (cornerPlace (isGrouped book) (getD places i 0) j) (getD places (i + 1) 0)) (asSpot (recordOf (drop (cornerPlace (isGrouped book) (getD places i 0) j) book))) spot.Nothing
         go true = simp (le-ltb _ _ h)
         go false = refl
 
     -- it is
-    pub some-corner : j < 127 → cornerPlace (getD places i 0) j < getD places (i + 1) 0
-        → asSpot (recordOf (drop (cornerPlace (getD places i 0) j) book)) ≡ cornerBy book places i j
+    pub some-corner : j < 127 → cornerPlace (isGrouped book) (getD places i 0) j < getD places (i + 1) 0
+        → asSpot (recordOf (drop (cornerPlace (isGrouped book) (getD places i 0) j) book)) ≡ cornerBy book places i j
     some-corner k h = simp (lt-ltb j 127 k, lt-ltb _ _ h)
 
     -- past the last place

@@ -1,5 +1,5 @@
 -- The counts of a whole book: what is accepted has right counts (`agreed-right`), and comparing by the places of the routes comes to the same.
-use mathlib.Core.Path.{_≡_, refl, sym, ap, ap₂, _∙_}
+use mathlib.Core.Path.{_≡_, refl, sym, ap, ap₂, subst, _∙_}
 use mathlib.Core.Bool.{Bool, true, false, cond, not, _||_}
 use mathlib.Core.List.{List, [], _∷_}
 use Prim.Native.Nat.{ℕ, suc, _+_, _*_, _≤_, _<_}
@@ -13,6 +13,7 @@ use Rattle.network.proofs.Tests.{neither, eqb-same}
 use Rattle.refusal.specs.declared.Refusal.{Refusal}
 use Rattle.refusal.specs.declared.Refusal.the-variants.{Miscounted}
 use Rattle.plan.specs.declared.Head.{Head}
+use Rattle.plan.specs.Records.{routeSize}
 use Rattle.plan.specs.Plan.{Entry, totalCorners}
 use Rattle.records.specs.declared.Record.{Record}
 use Rattle.records.specs.declared.Record.the-variants as rec
@@ -30,6 +31,7 @@ use Rattle.book.specs.Parse.{
   Rest,
   rest,
   stopped,
+  isGrouped,
   restOf,
   entriesOf,
   behind,
@@ -41,7 +43,7 @@ use Rattle.book.specs.Parse.{
 }
 use Rattle.book.specs.Reading.{places, padded, readingOf}
 use Rattle.book.specs.Shape.{shapeBy, shapeOf, saidOf}
-use Rattle.book.proofs.Taken.{record-long}
+use Rattle.book.proofs.Taken.{head-grouped}
 use Rattle.book.proofs.Places.{RoutesAt, Reads, rest-reads}
 use Rattle.book.proofs.Stands.{Stands, first-place, padded-place, placed}
 
@@ -68,13 +70,13 @@ right-count t e =
     record { said = eqb-true _ _ (not-false _ b); some = omega (arith, n) }
 
 -- counts that agree come to what is compared last, at the end's place
-counted-right : (at : ℕ) (ts : List Told) (ending : ℕ → Parsed) (h : Head) (es : List Entry) → counted at ts ending ≡ accepted h es
+counted-right : (g : Bool) (at : ℕ) (ts : List Told) (ending : ℕ → Parsed) (h : Head) (es : List Entry) → counted g at ts ending ≡ accepted h es
     → (end : ℕ) × (ending end ≡ accepted h es) × All RightCount ts
 unfolding counted
-counted-right at [] ending h es e = (at, e, tt)
-counted-right at (t ∷ ts) ending h es e =
-    let (right, later) = kept (miscounted t) (Miscounted at) (counted (behind at (t .entry)) ts ending) h es e in
-    let (end, last, all) = counted-right (behind at (t .entry)) ts ending h es later in
+counted-right g at [] ending h es e = (at, e, tt)
+counted-right g at (t ∷ ts) ending h es e =
+    let (right, later) = kept (miscounted t) (Miscounted at) (counted g (behind g at (t .entry)) ts ending) h es e in
+    let (end, last, all) = counted-right g (behind g at (t .entry)) ts ending h es later in
     (end, last, (right-count t right, all))
 
 -- the head and the routes as read, and right counts
@@ -89,7 +91,7 @@ pub agreed-right : (g : Head) (ts : List Told) (total : ℕ) (h : Head) (es : Li
 unfolding agreed
 agreed-right g ts total h es e =
     let a = kept (not (eqb (g .runs) (length ts))) _ _ h es e in
-    let (end, c, right) = counted-right 19 ts _ h es (a .1) in
+    let (end, c, right) = counted-right (g .grouped) 19 ts _ h es (a .1) in
     let b = kept (not (eqb total (totalCorners (entriesOf ts)))) _ _ h es c in
     let same : _≡_ {A = Parsed} (accepted g (entriesOf ts)) (accepted h es) = b .1 in
     record {
@@ -107,8 +109,8 @@ pub record WholeBook (s : List ℕ) (shape : Shape) (h : Head) : Type 0 where
   pub told : List Told
   pub is : parsePlan s ≡ agreed h told (shape .total)
   pub count : shape .count ≡ length told
-  pub places : shape .places ≡ padded (places 19 (entriesOf told))
-  pub held : RoutesAt s 19 start told
+  pub places : shape .places ≡ padded (places (h .grouped) 19 (entriesOf told))
+  pub held : RoutesAt s 19 (start (h .grouped)) told
   pub few : length told ≤ 32
 
 never-whole : (x : Refusal) (h : Head) → Refused x ≡ Whole h → ⊥
@@ -116,10 +118,12 @@ never-whole x h e = let z : _≡_ {A = ℕ} 0 1 = cc in omega arith
 
 module _ (s : List ℕ) where
   -- what stands behind a head
-  pub head-reads : (h : Head) → recordOf s ≡ rec.Head h → Reads s 19 start (restOf s)
-  head-reads h e = rest-reads s (suc (length s)) 19 start (rw e at (record-long s)) (omega arith) (omega arith)
+  pub head-reads : (h : Head) → recordOf s ≡ rec.Head h → Reads s 19 (start (h .grouped)) (restOf s)
+  head-reads h e =
+      subst (λ g. Reads s 19 (start g) (restOf s)) (head-grouped s h e)
+      (rest-reads s (suc (length s)) 19 (start (isGrouped s)) (omega arith) (omega arith))
 
-  whole-by : (g : Record) (k : Rest) (shape : Shape) (h : Head) → parsePlan s ≡ parseBy g k → ((f : Head) → g ≡ rec.Head f → Reads s 19 start k)
+  whole-by : (g : Record) (k : Rest) (shape : Shape) (h : Head) → parsePlan s ≡ parseBy g k → ((f : Head) → g ≡ rec.Head f → Reads s 19 (start (f .grouped)) k)
       → shape ≡ shapeBy g k → shape .found ≡ Whole h → WholeBook s shape h
   unfolding parseBy shapeBy
   whole-by (rec.Head g) (rest cs ts total) shape h p reads e f =
@@ -130,12 +134,12 @@ module _ (s : List ℕ) where
         told = ts;
         is = p ∙ ap₂ (λ q n. agreed q ts n) same (sym (ap (λ q. q .total) e));
         count = ap (λ q. q .count) e;
-        places = ap (λ q. q .places) e ∙ ap (λ (n : ℕ). padded (places n (entriesOf ts))) m;
-        held = rw (m, t .first refl) at (t .routes);
+        places = ap (λ q. q .places) e ∙ ap₂ (λ (f : Head) (n : ℕ). padded (places (f .grouped) n (entriesOf ts))) same m;
+        held = rw (m, t .first refl, same) at (t .routes);
         few = omega (arith, t .few);
       }
   whole-by (rec.Head g) (stopped x) shape h p t e f = absurd (never-whole x h (sym (ap (λ q. q .found) e) ∙ f))
-  whole-by (rec.Route number meets said) k shape h p t e f = absurd (never-whole _ h (sym (ap (λ q. q .found) e) ∙ f))
+  whole-by (rec.Route q number meets said centre) k shape h p t e f = absurd (never-whole _ h (sym (ap (λ q. q .found) e) ∙ f))
   whole-by (rec.Corner x y) k shape h p t e f = absurd (never-whole _ h (sym (ap (λ q. q .found) e) ∙ f))
   whole-by (rec.End total) k shape h p t e f = absurd (never-whole _ h (sym (ap (λ q. q .found) e) ∙ f))
   whole-by rec.Other k shape h p t e f = absurd (never-whole _ h (sym (ap (λ q. q .found) e) ∙ f))
@@ -149,7 +153,7 @@ module _ (s : List ℕ) where
   unfolding parseBy shapeBy
   refused-by (rec.Head g) (rest cs ts total) shape x e f = absurd (never-whole x g (sym f ∙ ap (λ q. q .found) e))
   refused-by (rec.Head g) (stopped y) shape x e f = cc (sym (ap (λ q. q .found) e) ∙ f)
-  refused-by (rec.Route number meets said) k shape x e f = cc (sym (ap (λ q. q .found) e) ∙ f)
+  refused-by (rec.Route q number meets said centre) k shape x e f = cc (sym (ap (λ q. q .found) e) ∙ f)
   refused-by (rec.Corner a b) k shape x e f = cc (sym (ap (λ q. q .found) e) ∙ f)
   refused-by (rec.End total) k shape x e f = cc (sym (ap (λ q. q .found) e) ∙ f)
   refused-by rec.Other k shape x e f = cc (sym (ap (λ q. q .found) e) ∙ f)
@@ -161,13 +165,14 @@ module _ (s : List ℕ) where
 -- ---- the counts by the places
 
 -- the test of a route by its place and the next: it has no corner, or the record says another number
-abbrev pub byPlaces : (at end said : ℕ) → Bool
-byPlaces at end said = eqb end (at + 7) || not (eqb end (at + 7 + 9 * said))
+abbrev pub byPlaces : (size at end said : ℕ) → Bool
+byPlaces size at end said = eqb end (at + size) || not (eqb end (at + size + 9 * said))
 
-tested-by : (a e said : ℕ) (t : Told) → said ≡ t .said → e ≡ behind a (t .entry) → byPlaces a e said ≡ miscounted t
-tested-by a e said t r b =
-    ap₂ (λ p q. p || not q) (eqb-same e (a + 7) (length (t .entry .corners)) 0 (λ z. omega arith) (λ z. omega arith))
-    (eqb-same e (a + 7 + 9 * said) (t .said) (length (t .entry .corners)) (λ z. omega arith) (λ z. omega arith))
+tested-by : (g : Bool) (a e said : ℕ) (t : Told) → said ≡ t .said → e ≡ behind g a (t .entry) → byPlaces (routeSize g) a e said ≡ miscounted t
+tested-by g a e said t r b =
+    let size = routeSize g in
+    ap₂ (λ p q. p || not q) (eqb-same e (a + size) (length (t .entry .corners)) 0 (λ z. omega arith) (λ z. omega arith))
+    (eqb-same e (a + size + 9 * said) (t .said) (length (t .entry .corners)) (λ z. omega arith) (λ z. omega arith))
 
 -- what is left to compare once the head's count is right
 abbrev lastly : Head → List Told → ℕ → ℕ → Parsed
@@ -176,7 +181,8 @@ lastly h ts total end = cond (not (eqb total (totalCorners (entriesOf ts)))) (re
 -- from route i on
 pub Comparing : {s : List ℕ} {shape : Shape} {h : Head} → WholeBook s shape h → ℕ → Type 0
 Comparing {s} {shape} {h} w i =
-    counted 19 (w .told) (lastly h (w .told) (shape .total)) ≡ counted (getD (shape .places) i 0) (drop i (w .told)) (lastly h (w .told) (shape .total))
+    counted (h .grouped) 19 (w .told) (lastly h (w .told) (shape .total))
+    ≡ counted (h .grouped) (getD (shape .places) i 0) (drop i (w .told)) (lastly h (w .told) (shape .total))
 
 refusing-is : (s : List ℕ) (x : Refusal) → parsePlan s ≡ refused x → readingOf (refused x) ≡ readingOf (parsePlan s)
 refusing-is s x e = sym (ap readingOf e)
@@ -187,50 +193,50 @@ module _ {s : List ℕ} {shape : Shape} {h : Head} (w : WholeBook s shape h) whe
   unfolding agreed
   runs-wrong n = refusing-is s _ (w .is ∙ simp (ne-eqb (h .runs) (length (w .told)) (λ z. n (z ∙ sym (w .count)))))
 
-  counting : h .runs ≡ shape .count → parsePlan s ≡ counted 19 (w .told) (lastly h (w .told) (shape .total))
+  counting : h .runs ≡ shape .count → parsePlan s ≡ counted (h .grouped) 19 (w .told) (lastly h (w .told) (shape .total))
   unfolding agreed
   counting e = w .is ∙ simp (eq-eqb (h .runs) (length (w .told)) (e ∙ w .count))
 
   pub comparing-start : Comparing w 0
   unfolding Comparing
   comparing-start =
-      ap (λ (m : ℕ). counted m (w .told) (lastly h (w .told) (shape .total)))
-      (sym (padded-place (shape .places) (entriesOf (w .told)) (w .places) 0 (omega arith) ∙ first-place 19 (entriesOf (w .told))))
+      ap (λ (m : ℕ). counted (h .grouped) m (w .told) (lastly h (w .told) (shape .total)))
+      (sym (padded-place (h .grouped) (shape .places) (entriesOf (w .told)) (w .places) 0 (omega arith) ∙ first-place (h .grouped) 19 (entriesOf (w .told))))
 
   module _ (i : ℕ) (l : i < shape .count) where
-    stood : Stands s (w .told) i (getD (shape .places) i 0) (getD (shape .places) (i + 1) 0)
-    stood = placed s (shape .places) (w .told) i (w .places) (w .held) (omega (arith, w .count))
+    stood : Stands s (h .grouped) (w .told) i (getD (shape .places) i 0) (getD (shape .places) (i + 1) 0)
+    stood = placed s (h .grouped) (shape .places) (w .told) i (w .places) (w .held) (omega (arith, w .count))
 
     pub small : i < 32
     small = omega (arith, w .count, w .few)
 
     module _ (said : ℕ) (is : said ≡ saidOf (recordOf (drop (getD (shape .places) i 0) s))) where
       -- the test by the places is the test of the route
-      tested : byPlaces (getD (shape .places) i 0) (getD (shape .places) (i + 1) 0) said ≡ miscounted (stood .route)
-      tested = tested-by (getD (shape .places) i 0) (getD (shape .places) (i + 1) 0) said (stood .route) (is ∙ ap saidOf (stood .at .is)) (stood .end)
+      tested : byPlaces (routeSize (h .grouped)) (getD (shape .places) i 0) (getD (shape .places) (i + 1) 0) said ≡ miscounted (stood .route)
+      tested = tested-by (h .grouped) (getD (shape .places) i 0) (getD (shape .places) (i + 1) 0) said (stood .route) (is ∙ ap saidOf (stood .at .is)) (stood .end)
 
-      next : Comparing w i → counted 19 (w .told) (lastly h (w .told) (shape .total))
+      next : Comparing w i → counted (h .grouped) 19 (w .told) (lastly h (w .told) (shape .total))
           ≡ cond (miscounted (stood .route)) (refused (Miscounted (getD (shape .places) i 0)))
-          (counted (behind (getD (shape .places) i 0) (stood .route .entry)) (drop (suc i) (w .told)) (lastly h (w .told) (shape .total)))
+          (counted (h .grouped) (behind (h .grouped) (getD (shape .places) i 0) (stood .route .entry)) (drop (suc i) (w .told)) (lastly h (w .told) (shape .total)))
       unfolding Comparing counted
-      next c = c ∙ ap (λ ts. counted (getD (shape .places) i 0) ts (lastly h (w .told) (shape .total))) (stood .here)
+      next c = c ∙ ap (λ ts. counted (h .grouped) (getD (shape .places) i 0) ts (lastly h (w .told) (shape .total))) (stood .here)
 
-      pub compared-wrong : byPlaces (getD (shape .places) i 0) (getD (shape .places) (i + 1) 0) said ≡ true
+      pub compared-wrong : byPlaces (routeSize (h .grouped)) (getD (shape .places) i 0) (getD (shape .places) (i + 1) 0) said ≡ true
           → h .runs ≡ shape .count → Comparing w i → readingOf (refused (Miscounted (getD (shape .places) i 0))) ≡ readingOf (parsePlan s)
       compared-wrong t runs c = refusing-is s _ (counting runs ∙ next c ∙ simp (sym tested ∙ t))
 
-      pub compared-on : byPlaces (getD (shape .places) i 0) (getD (shape .places) (i + 1) 0) said ≡ false
+      pub compared-on : byPlaces (routeSize (h .grouped)) (getD (shape .places) i 0) (getD (shape .places) (i + 1) 0) said ≡ false
           → Comparing w i → Comparing w (i + 1)
       unfolding Comparing
       compared-on t c =
           next c ∙ simp (sym tested ∙ t)
-          (ap₂ (λ (m k : ℕ). counted m (drop k (w .told)) (lastly h (w .told) (shape .total))) (sym (stood .end)) (sym (add-one i)))
+          (ap₂ (λ (m k : ℕ). counted (h .grouped) m (drop k (w .told)) (lastly h (w .told) (shape .total))) (sym (stood .end)) (sym (add-one i)))
 
   -- ---- the end's count
 
-  end-place : (at : ℕ) (es : List Entry) → getD (places at es) (length es) 0 ≡ at + 7 * length es + 9 * totalCorners es
-  end-place at [] = omega arith
-  end-place at (e ∷ es) = end-place (behind at e) es ∙ omega arith
+  end-place : (g : Bool) (at : ℕ) (es : List Entry) → getD (places g at es) (length es) 0 ≡ at + routeSize g * length es + 9 * totalCorners es
+  end-place g at [] = omega arith
+  end-place g at (e ∷ es) = end-place g (behind g at e) es ∙ omega arith
 
   pub few-routes : shape .count ≤ 32
   few-routes = omega (arith, w .count, w .few)
@@ -243,25 +249,25 @@ module _ {s : List ℕ} {shape : Shape} {h : Head} (w : WholeBook s shape h) whe
     unfolding Comparing counted
     at-end =
         counting runs ∙ c
-        ∙ ap (λ ts. counted (getD (shape .places) (shape .count) 0) ts (lastly h (w .told) (shape .total)))
+        ∙ ap (λ ts. counted (h .grouped) (getD (shape .places) (shape .count) 0) ts (lastly h (w .told) (shape .total)))
         (drop-of-length-le (w .told) {i = shape .count} (omega (arith, w .count)))
 
-    ends : getD (shape .places) (shape .count) 0 ≡ 19 + 7 * shape .count + 9 * totalCorners (entriesOf (w .told))
+    ends : getD (shape .places) (shape .count) 0 ≡ 19 + routeSize (h .grouped) * shape .count + 9 * totalCorners (entriesOf (w .told))
     ends =
         let n = length-map (w .told) (λ (t : Told). t .entry) in
         let m : shape .count ≡ length (entriesOf (w .told)) = omega (arith, w .count, n) in
-        padded-place (shape .places) (entriesOf (w .told)) (w .places) (shape .count) (omega arith)
-        ∙ ap (λ (k : ℕ). getD (places 19 (entriesOf (w .told))) k 0) m ∙ end-place 19 (entriesOf (w .told))
-        ∙ ap (λ (k : ℕ). 19 + 7 * k + 9 * totalCorners (entriesOf (w .told))) (sym m)
+        padded-place (h .grouped) (shape .places) (entriesOf (w .told)) (w .places) (shape .count) (omega arith)
+        ∙ ap (λ (k : ℕ). getD (places (h .grouped) 19 (entriesOf (w .told))) k 0) m ∙ end-place (h .grouped) 19 (entriesOf (w .told))
+        ∙ ap (λ (k : ℕ). 19 + routeSize (h .grouped) * k + 9 * totalCorners (entriesOf (w .told))) (sym m)
 
-    pub total-wrong : (getD (shape .places) (shape .count) 0 ≡ 19 + 7 * shape .count + 9 * shape .total → ⊥)
+    pub total-wrong : (getD (shape .places) (shape .count) 0 ≡ 19 + routeSize (h .grouped) * shape .count + 9 * shape .total → ⊥)
         → readingOf (refused (Miscounted (getD (shape .places) (shape .count) 0))) ≡ readingOf (parsePlan s)
     total-wrong n =
         refusing-is s _
         (at-end
-        ∙ simp (ne-eqb (shape .total) (totalCorners (entriesOf (w .told))) (λ z. n (ends ∙ ap (λ (m : ℕ). 19 + 7 * shape .count + 9 * m) (sym z)))))
+        ∙ simp (ne-eqb (shape .total) (totalCorners (entriesOf (w .told))) (λ z. n (ends ∙ ap (λ (m : ℕ). 19 + routeSize (h .grouped) * shape .count + 9 * m) (sym z)))))
 
-    pub all-right : getD (shape .places) (shape .count) 0 ≡ 19 + 7 * shape .count + 9 * shape .total
+    pub all-right : getD (shape .places) (shape .count) 0 ≡ 19 + routeSize (h .grouped) * shape .count + 9 * shape .total
         → _≡_ {A = Reading} (record { answer = Accepted; head = h; places = shape .places }) (readingOf (parsePlan s))
     unfolding readingOf
     all-right e =

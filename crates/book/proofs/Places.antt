@@ -1,14 +1,15 @@
 -- Each record of a book that was read stands where the places say, and its corners are in range and turn: `rest-reads`.
 use mathlib.Core.Path.{_≡_, refl, ap}
-use mathlib.Core.Bool.{true, false}
+use mathlib.Core.Bool.{Bool, true, false}
 use mathlib.Core.List.{List, [], _∷_}
 use Prim.Native.Nat.{ℕ, zero, suc, _+_, _*_, _≤_}
 use native.Mathlib.Nat.{add-zero}
 use native.Mathlib.Omega.{arith}
-use lib.ListN.{length, drop, length-drop}
+use lib.ListN.{length, drop}
 use lib.Seq.{drop-drop}
 use Rattle.network.specs.Plane.{Point}
 use Rattle.job.specs.Fields.{biasedOf}
+use Rattle.plan.specs.Records.{routeSize}
 use Rattle.records.specs.declared.Record.the-variants as rec
 use Rattle.records.specs.Records.{recordOf}
 use Rattle.book.specs.declared.Corner.{Corner}
@@ -38,6 +39,11 @@ abbrev pub afterCorners : Walk → List Point → Walk
 afterCorners w [] = w
 afterCorners w (p ∷ ps) = afterCorners (passed w (record { x = p .x; y = p .y })) ps
 
+-- the set of kinds is the same
+pub after-grouped : (w : Walk) (ps : List Point) → afterCorners w ps .grouped ≡ w .grouped
+after-grouped w [] = refl
+after-grouped w (p ∷ ps) = after-grouped (passed w (record { x = p .x; y = p .y })) ps
+
 module _ (s : List ℕ) where
   -- ---- what stands where
 
@@ -57,16 +63,15 @@ module _ (s : List ℕ) where
   CornersAt at w (p ∷ ps) = CornerAt at w p × CornersAt (at + 9) (passed w (record { x = p .x; y = p .y })) ps
 
   -- a route with its corners behind it, of which there are at most 127
-  pub record RouteAt (at : ℕ) (w : Walk) (t : Told) : Type 0 where
-    pub is : recordOf (drop at s) ≡ rec.Route (t .entry .number) (t .entry .meets) (t .said)
-    pub corners : CornersAt (at + 7) (begun w) (t .entry .corners)
+  pub record RouteAt (g : Bool) (at : ℕ) (w : Walk) (t : Told) : Type 0 where
+    pub is : recordOf (drop at s) ≡ rec.Route g (t .entry .number) (t .entry .meets) (t .said) (t .entry .centre)
+    pub corners : CornersAt (at + routeSize g) (begun w) (t .entry .corners)
     pub few : length (t .entry .corners) ≤ 127
-    pub room : at + 7 ≤ length s
 
   -- routes, one behind the other
   unfoldable pub RoutesAt : ℕ → Walk → List Told → Type 0
   RoutesAt at w [] = Unit {0}
-  RoutesAt at w (t ∷ ts) = RouteAt at w t × RoutesAt (behind at (t .entry)) (afterCorners (begun w) (t .entry .corners)) ts
+  RoutesAt at w (t ∷ ts) = RouteAt (w .grouped) at w t × RoutesAt (behind (w .grouped) at (t .entry)) (afterCorners (begun w) (t .entry .corners)) ts
 
   pub record RestAt (at : ℕ) (w : Walk) (cs : List Point) (ts : List Told) : Type 0 where
     pub corners : CornersAt at w cs
@@ -81,18 +86,19 @@ module _ (s : List ℕ) where
 
   -- ---- record by record
 
-  reads-route : (at : ℕ) (w : Walk) (number meets said : ℕ) (k : Rest) → w .corners ≤ 127 → at ≤ length s → TookRoute (drop at s) w (recordOf (drop at s)) number meets said
-      → Reads (at + 7) (begun w) k → Reads at w (withRoute number meets said k)
+  reads-route : (at : ℕ) (w : Walk) (number meets said centre : ℕ) (k : Rest) → w .corners ≤ 127
+      → TookRoute (drop at s) w (recordOf (drop at s)) number meets said centre → Reads (at + routeSize (w .grouped)) (begun w) k
+      → Reads at w (withRoute number meets said centre k)
   unfolding CornersAt RoutesAt
-  reads-route at w number meets said (rest cs ts total) h i k t =
+  reads-route at w number meets said centre (rest cs ts total) h k t =
       record {
         corners = tt;
-        routes = rw (add-zero at) (record { is = k .is; corners = t .corners; few = omega (arith, t .short); room = omega (arith, k .long, length-drop at s) }, t .routes);
+        routes = rw (add-zero at) (record { is = k .is; corners = t .corners; few = omega (arith, t .short) }, t .routes);
         short = omega arith;
         few = omega (arith, t .few);
         first = λ e. refl;
       }
-  reads-route at w number meets said (stopped x) h i k t = tt
+  reads-route at w number meets said centre (stopped x) h k t = tt
 
   reads-corner : (at : ℕ) (w : Walk) (c : Corner) (k : Rest) → TookCorner (drop at s) w (recordOf (drop at s)) c → Reads (at + 9) (passed w c) k
       → Reads at w (withCorner c k)
@@ -119,21 +125,20 @@ module _ (s : List ℕ) where
       }
   reads-corner at w c (stopped x) k t = tt
 
-  pub rest-reads : (n at : ℕ) (w : Walk) → at ≤ length s → w .routes ≤ 32 → w .corners ≤ 127 → Reads at w (restFrom n at w (drop at s))
+  pub rest-reads : (n at : ℕ) (w : Walk) → w .routes ≤ 32 → w .corners ≤ 127 → Reads at w (restFrom n at w (drop at s))
   unfolding restFrom CornersAt RoutesAt
-  rest-reads zero at w i h k = tt
-  rest-reads (suc n) at w i h k =
-      go (stepOf at w (drop at s)) (step-took at w (drop at s))
-      (λ m v o q r. rw (drop-drop m at s) (rest-reads n (at + m) v o q r))
+  rest-reads zero at w h k = tt
+  rest-reads (suc n) at w h k =
+      go (stepOf at w (drop at s)) (step-took at w (drop at s)) (λ m v q r. rw (drop-drop m at s) (rest-reads n (at + m) v q r))
     where
       go : (st : Step) → Took (drop at s) w (recordOf (drop at s)) st
-          → ((m : ℕ) (v : Walk) → at + m ≤ length s → v .routes ≤ 32 → v .corners ≤ 127 → Reads (at + m) v (restFrom n (at + m) v (drop m (drop at s))))
+          → ((m : ℕ) (v : Walk) → v .routes ≤ 32 → v .corners ≤ 127 → Reads (at + m) v (restFrom n (at + m) v (drop m (drop at s))))
           → Reads at w (proceed (restFrom n) at w (drop at s) st)
-      go (step.Route number meets said) f later =
-          reads-route at w number meets said (restFrom n (at + 7) (begun w) (drop 7 (drop at s))) k i f
-          (later 7 (begun w) (omega (arith, f .long, length-drop at s)) (omega (arith, f .room)) (omega arith))
+      go (step.Route number meets said centre) f later =
+          let size = routeSize (w .grouped) in
+          reads-route at w number meets said centre (restFrom n (at + size) (begun w) (drop size (drop at s))) k f
+          (later size (begun w) (omega (arith, f .room)) (omega arith))
       go (step.Corner c) f later =
-          reads-corner at w c (restFrom n (at + 9) (passed w c) (drop 9 (drop at s))) f
-          (later 9 (passed w c) (omega (arith, f .long, length-drop at s)) h (omega (arith, f .room)))
+          reads-corner at w c (restFrom n (at + 9) (passed w c) (drop 9 (drop at s))) f (later 9 (passed w c) h (omega (arith, f .room)))
       go (step.End total) f later = record { corners = tt; routes = tt; short = omega arith; few = omega arith; first = λ e. refl }
       go (step.Refuse x) f later = tt

@@ -1,5 +1,6 @@
 -- The loop of `shape_of`: the places so far, in front of what the rest of the book gives, are those of the whole book.
 use mathlib.Core.Path.{_≡_, refl, sym, ap, _∙_}
+use mathlib.Core.Bool.{Bool}
 use mathlib.Core.List.{List, [], _∷_, _++_}
 use Prim.Native.Nat.{ℕ, zero, suc, pred, _+_, _-_, _*_, _≤_, _<_}
 use native.Mathlib.Numerals.{add-one}
@@ -11,6 +12,8 @@ use denote.Enum.Declared.{tagOf}
 use Rattle.refusal.specs.declared.Refusal.{Refusal}
 use Rattle.refusal.specs.declared.Refusal.the-variants.{NotWhole}
 use Rattle.plan.specs.declared.Head.{Head}
+use Rattle.plan.specs.Records.{routeSize}
+use Rattle.plan.proofs.Length.{route-size}
 use Rattle.records.specs.declared.Record.{Record}
 use Rattle.records.specs.declared.Record.the-variants as rec
 use Rattle.records.specs.Records.{recordOf}
@@ -22,10 +25,10 @@ use Rattle.book.specs.declared.Stop.the-variants as stop
 use Rattle.book.specs.declared.Run.{Run}
 use Rattle.book.specs.declared.Found.the-variants.{Whole}
 use Rattle.book.specs.declared.Shape.{Shape}
-use Rattle.book.specs.Parse.{start, begun, passed, stepOf, Rest, proceed, restFrom, restOf}
+use Rattle.book.specs.Parse.{start, begun, passed, stepOf, Rest, proceed, restFrom, isGrouped, restOf}
 use Rattle.book.specs.Reading.{padded}
 use Rattle.book.specs.Shape.{refusing, shapeBy, shapeOf, Passes, none, more, Runs}
-use Rattle.book.proofs.Taken.{record-long, TookRoute, TookCorner, step-took}
+use Rattle.book.proofs.Taken.{record-long, head-grouped, TookRoute, TookCorner, step-took}
 use Rattle.book.proofs.Summary.{
   Summary,
   found,
@@ -47,25 +50,25 @@ pub record SoFar (s held : List ℕ) (at : ℕ) (w : Walk) : Type 0 where
   pub few : w .routes ≤ 32
   pub short : w .corners ≤ 127
   pub within : at ≤ length s
-  pub near : at ≤ 19 + 1150 * w .routes + 9 * w .corners
+  pub near : at ≤ 19 + 1152 * w .routes + 9 * w .corners
   pub fuel : ℕ
   pub enough : length s < at + fuel
   pub before : List ℕ
   pub many : length before ≡ w .routes
   pub places : held ≡ padded before
-  pub rest : after before (summary at (restFrom fuel at w (drop at s))) ≡ summary 19 (restOf s)
+  pub rest : after before (summary (w .grouped) at (restFrom fuel at w (drop at s))) ≡ summary (isGrouped s) 19 (restOf s)
 
 -- a first record that is no head
 abbrev NotHead : Record → Type 0
 NotHead (rec.Head h) = ⊥
-NotHead (rec.Route number meets said) = Unit {0}
+NotHead (rec.Route q number meets said centre) = Unit {0}
 NotHead (rec.Corner x y) = Unit {0}
 NotHead (rec.End total) = Unit {0}
 NotHead rec.Other = Unit {0}
 
 pub else-head : (g : Record) → OneOf (1 ∷ 2 ∷ 3 ∷ 4 ∷ []) (tagOf the-type g) → NotHead g
 else-head (rec.Head h) t = miss (1 ∷ 2 ∷ 3 ∷ 4 ∷ []) 0 tt t
-else-head (rec.Route number meets said) t = tt
+else-head (rec.Route q number meets said centre) t = tt
 else-head (rec.Corner x y) t = tt
 else-head (rec.End total) t = tt
 else-head rec.Other t = tt
@@ -73,7 +76,7 @@ else-head rec.Other t = tt
 refused-by : (g : Record) (k : Rest) → NotHead g → refusing (NotWhole 0) ≡ shapeBy g k
 unfolding shapeBy
 refused-by (rec.Head h) k n = absurd n
-refused-by (rec.Route number meets said) k n = refl
+refused-by (rec.Route q number meets said centre) k n = refl
 refused-by (rec.Corner x y) k n = refl
 refused-by (rec.End total) k n = refl
 refused-by rec.Other k n = refl
@@ -83,19 +86,21 @@ unfolding shapeOf
 first-refused s g e n = refused-by g (restOf s) n ∙ ap (λ q. shapeBy q (restOf s)) (sym e)
 
 -- behind the head
-pub so-far-none : (s : List ℕ) (h : Head) → recordOf s ≡ rec.Head h → SoFar s (replicate 33 0) 19 start
+pub so-far-none : (s : List ℕ) (h : Head) → recordOf s ≡ rec.Head h → SoFar s (replicate 33 0) 19 (start (h .grouped))
 so-far-none s h e =
     record {
       few = omega arith;
       short = omega arith;
-      within = rw e at (record-long s);
+      within = (rw e at (record-long s)) .0;
       near = omega arith;
       fuel = suc (length s);
       enough = omega arith;
       before = [];
       many = refl;
       places = refl;
-      rest = after-none (summary 19 (restOf s));
+      rest =
+          ap (λ (g : Bool). after [] (summary g 19 (restFrom (suc (length s)) 19 (start g) (drop 19 s)))) (sym (head-grouped s h e))
+          ∙ after-none (summary (isGrouped s) 19 (restOf s));
     }
 
 -- a corner that is taken
@@ -109,25 +114,27 @@ corner-room s at w c h e = omega (arith, took-corner s at w c e .long, length-dr
 module _ (s held : List ℕ) (at : ℕ) (w : Walk) (h : SoFar s held at w) where
   -- one record is looked at
   stepped : (f : ℕ) × (length s < at + suc f)
-      × (after (h .before) (summary at (proceed (restFrom f) at w (drop at s) (stepOf at w (drop at s)))) ≡ summary 19 (restOf s))
+      × (after (h .before) (summary (w .grouped) at (proceed (restFrom f) at w (drop at s) (stepOf at w (drop at s)))) ≡ summary (isGrouped s) 19 (restOf s))
   unfolding restFrom
   stepped = go (h .fuel) (h .enough) (h .rest)
     where
-      go : (f : ℕ) → length s < at + f → after (h .before) (summary at (restFrom f at w (drop at s))) ≡ summary 19 (restOf s)
+      go : (f : ℕ) → length s < at + f → after (h .before) (summary (w .grouped) at (restFrom f at w (drop at s))) ≡ summary (isGrouped s) 19 (restOf s)
           → (g : ℕ) × (length s < at + suc g)
-          × (after (h .before) (summary at (proceed (restFrom g) at w (drop at s) (stepOf at w (drop at s)))) ≡ summary 19 (restOf s))
+          × (after (h .before) (summary (w .grouped) at (proceed (restFrom g) at w (drop at s) (stepOf at w (drop at s)))) ≡ summary (isGrouped s) 19 (restOf s))
       go zero l e = absurd (omega (arith, h .within))
       go (suc f) l e = (f, l, e)
 
   -- a route
-  module _ (number meets said : ℕ) (e : stepOf at w (drop at s) ≡ step.Route number meets said) where
-    pub took-route : TookRoute (drop at s) w (recordOf (drop at s)) number meets said
+  module _ (number meets said centre : ℕ) (e : stepOf at w (drop at s) ≡ step.Route number meets said centre) where
+    pub took-route : TookRoute (drop at s) w (recordOf (drop at s)) number meets said centre
     took-route = rw e at (step-took at w (drop at s))
 
-    pub so-far-route : SoFar s (set held (w .routes) at) (at + 7) (begun w)
+    pub so-far-route : SoFar s (set held (w .routes) at) (at + routeSize (w .grouped)) (begun w)
     so-far-route =
         let (f, l, whole) = stepped in
         let fits = took-route in
+        let size = routeSize (w .grouped) in
+        let (some, most) = route-size (w .grouped) in
         record {
           few = omega (arith, fits .room);
           short = omega arith;
@@ -139,14 +146,17 @@ module _ (s held : List ℕ) (at : ℕ) (w : Walk) (h : SoFar s held at w) where
           many = length-append (h .before) (at ∷ []) ∙ ap (λ (n : ℕ). n + 1) (h .many);
           places = ap (λ (m : List ℕ). set m (w .routes) at) (h .places) ∙ padded-more (h .before) (w .routes) at (h .many) (omega (arith, fits .room));
           rest =
-              ap (λ (b : List ℕ). after (h .before ++ (at ∷ [])) (summary (at + 7) (restFrom f (at + 7) (begun w) b))) (sym (drop-drop 7 at s))
-              ∙ sym (after-more (h .before) at (summary (at + 7) (restFrom f (at + 7) (begun w) (drop 7 (drop at s)))))
-              ∙ ap (after (h .before)) (sym (route-summary at number meets said (restFrom f (at + 7) (begun w) (drop 7 (drop at s))))) ∙ (rw e at whole);
+              ap (λ (b : List ℕ). after (h .before ++ (at ∷ [])) (summary (w .grouped) (at + size) (restFrom f (at + size) (begun w) b)))
+              (sym (drop-drop size at s))
+              ∙ sym (after-more (h .before) at (summary (w .grouped) (at + size) (restFrom f (at + size) (begun w) (drop size (drop at s)))))
+              ∙ ap (after (h .before))
+              (sym (route-summary (w .grouped) at number meets said centre (restFrom f (at + size) (begun w) (drop size (drop at s)))))
+              ∙ (rw e at whole);
         }
 
     -- fewer bytes are left
-    pub route-less : length s - (at + 7) < length s - at
-    route-less = omega (arith, took-route .long, length-drop at s, h .within)
+    pub route-less : length s - (at + routeSize (w .grouped)) < length s - at
+    route-less = omega (arith, took-route .long, length-drop at s, h .within, route-size (w .grouped))
 
   -- a corner
   module _ (c : Corner) (e : stepOf at w (drop at s) ≡ step.Corner c) where
@@ -165,8 +175,8 @@ module _ (s held : List ℕ) (at : ℕ) (w : Walk) (h : SoFar s held at w) where
           many = h .many;
           places = h .places;
           rest =
-              ap (λ (b : List ℕ). after (h .before) (summary (at + 9) (restFrom f (at + 9) (passed w c) b))) (sym (drop-drop 9 at s))
-              ∙ ap (after (h .before)) (sym (corner-summary at c (restFrom f (at + 9) (passed w c) (drop 9 (drop at s))))) ∙ (rw e at whole);
+              ap (λ (b : List ℕ). after (h .before) (summary (w .grouped) (at + 9) (restFrom f (at + 9) (passed w c) b))) (sym (drop-drop 9 at s))
+              ∙ ap (after (h .before)) (sym (corner-summary (w .grouped) at c (restFrom f (at + 9) (passed w c) (drop 9 (drop at s))))) ∙ (rw e at whole);
         }
 
   -- a place fits its word
@@ -174,9 +184,11 @@ module _ (s held : List ℕ) (at : ℕ) (w : Walk) (h : SoFar s held at w) where
   near-fits = omega (arith, h .near, h .few, h .short)
 
   -- the shape of the whole book, from what the record at hand leads to
-  shape-is : (hd : Head) (k : Summary) → recordOf s ≡ rec.Head hd → k ≡ summary 19 (restOf s) → shaped hd k ≡ shapeOf s
+  shape-is : (hd : Head) (k : Summary) → recordOf s ≡ rec.Head hd → k ≡ summary (isGrouped s) 19 (restOf s) → shaped hd k ≡ shapeOf s
   unfolding shapeOf
-  shape-is hd k e whole = ap (shaped hd) whole ∙ shape-shaped hd (restOf s) ∙ ap (λ g. shapeBy g (restOf s)) (sym e)
+  shape-is hd k e whole =
+      ap (shaped hd) (whole ∙ ap (λ (g : Bool). summary g 19 (restOf s)) (head-grouped s hd e)) ∙ shape-shaped hd (restOf s)
+      ∙ ap (λ g. shapeBy g (restOf s)) (sym e)
 
   pub so-far-end : (hd : Head) (total : ℕ) → recordOf s ≡ rec.Head hd → stepOf at w (drop at s) ≡ step.End total
       → _≡_ {A = Shape} (record { found = Whole hd; count = w .routes; total = total; places = set held (w .routes) at }) (shapeOf s)
@@ -185,7 +197,7 @@ module _ (s held : List ℕ) (at : ℕ) (w : Walk) (h : SoFar s held at w) where
       let n : w .routes ≡ pred (length (h .before ++ (at ∷ []))) = sym (ap pred (length-append (h .before) (at ∷ []) ∙ add-one (length (h .before))) ∙ h .many) in
       let l : set held (w .routes) at ≡ padded (h .before ++ (at ∷ [])) = ap (λ (m : List ℕ). set m (w .routes) at) (h .places) ∙ padded-more (h .before) (w .routes) at (h .many) (omega (arith, h .few)) in
       (λ i. record { found = Whole hd; count = n i; total = total; places = l i })
-      ∙ shape-is hd (found (h .before ++ (at ∷ [])) total) e (ap (after (h .before)) (sym (end-summary at total)) ∙ (rw t at whole))
+      ∙ shape-is hd (found (h .before ++ (at ∷ [])) total) e (ap (after (h .before)) (sym (end-summary (w .grouped) at total)) ∙ (rw t at whole))
 
   pub so-far-refused : (hd : Head) (x : Refusal) → recordOf s ≡ rec.Head hd → stepOf at w (drop at s) ≡ step.Refuse x → refusing x ≡ shapeOf s
   so-far-refused hd x e t =
@@ -210,7 +222,7 @@ module _ (s held : List ℕ) (at : ℕ) (w : Walk) (h : SoFar s held at w) (r : 
   run-so-far = so-far-passes s held at w (r .at) (r .walk) h (k .passes)
 
   pub run-route : r .stop ≡ stop.Route
-      → (number : ℕ) × (meets : ℕ) × (said : ℕ) × (stepOf (r .at) (r .walk) (drop (r .at) s) ≡ step.Route number meets said)
+      → (number : ℕ) × (meets : ℕ) × (said : ℕ) × (centre : ℕ) × (stepOf (r .at) (r .walk) (drop (r .at) s) ≡ step.Route number meets said centre)
   run-route e = rw e at (k .stops)
 
   pub run-end : (total : ℕ) → r .stop ≡ stop.End total → stepOf (r .at) (r .walk) (drop (r .at) s) ≡ step.End total

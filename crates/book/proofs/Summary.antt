@@ -1,5 +1,6 @@
 -- What the loop of `shape_of` has to know of the rest of a book: the places of the routes and of the end, and the end's total.
 use mathlib.Core.Path.{_≡_, refl, sym, ap, _∙_}
+use mathlib.Core.Bool.{Bool}
 use mathlib.Core.List.{List, [], _∷_, _++_, append-assoc}
 use Prim.Native.Nat.{ℕ, suc, pred, _+_, _-_, _*_, _<_}
 use native.Mathlib.Nat.{add-zero}
@@ -8,6 +9,7 @@ use lib.ListN.{length, set, replicate, length-append, length-map}
 use lib.Seq.{set-at, append-snoc}
 use Rattle.refusal.specs.declared.Refusal.{Refusal}
 use Rattle.plan.specs.declared.Head.{Head}
+use Rattle.plan.specs.Records.{routeSize}
 use Rattle.plan.specs.Plan.{Entry}
 use Rattle.records.specs.declared.Record.the-variants as rec
 use Rattle.book.specs.declared.Corner.{Corner}
@@ -23,9 +25,9 @@ pub data Summary : Type 0 where
   found : List ℕ → ℕ → Summary
   halted : Refusal → Summary
 
-abbrev pub summary : ℕ → Rest → Summary
-summary at (rest cs ts total) = found (places (at + 9 * length cs) (entriesOf ts)) total
-summary at (stopped x) = halted x
+abbrev pub summary : (grouped : Bool) (at : ℕ) → Rest → Summary
+summary g at (rest cs ts total) = found (places g (at + 9 * length cs) (entriesOf ts)) total
+summary g at (stopped x) = halted x
 
 -- places before those
 abbrev pub after : List ℕ → Summary → Summary
@@ -41,18 +43,21 @@ after-more l at (found k total) = ap (λ m. found m total) (sym (append-assoc l 
 after-more l at (halted x) = refl
 
 -- a route, a corner and the end
-pub route-summary : (at number meets said : ℕ) (k : Rest) → summary at (withRoute number meets said k) ≡ after (at ∷ []) (summary (at + 7) k)
-route-summary at number meets said (rest cs ts total) = ap (λ (m : ℕ). found (m ∷ places (m + 7 + 9 * length cs) (entriesOf ts)) total) (add-zero at)
-route-summary at number meets said (stopped x) = refl
+module _ (g : Bool) (at : ℕ) where
+  pub route-summary : (number meets said centre : ℕ) (k : Rest)
+      → summary g at (withRoute number meets said centre k) ≡ after (at ∷ []) (summary g (at + routeSize g) k)
+  route-summary number meets said centre (rest cs ts total) =
+      ap (λ (m : ℕ). found (m ∷ places g (m + routeSize g + 9 * length cs) (entriesOf ts)) total) (add-zero at)
+  route-summary number meets said centre (stopped x) = refl
 
-pub corner-summary : (at : ℕ) (c : Corner) (k : Rest) → summary at (withCorner c k) ≡ summary (at + 9) k
-corner-summary at c (rest cs ts total) =
-    let e : at + 9 * suc (length cs) ≡ at + 9 + 9 * length cs = omega arith in
-    ap (λ (m : ℕ). found (places m (entriesOf ts)) total) e
-corner-summary at c (stopped x) = refl
+  pub corner-summary : (c : Corner) (k : Rest) → summary g at (withCorner c k) ≡ summary g (at + 9) k
+  corner-summary c (rest cs ts total) =
+      let e : at + 9 * suc (length cs) ≡ at + 9 + 9 * length cs = omega arith in
+      ap (λ (m : ℕ). found (places g m (entriesOf ts)) total) e
+  corner-summary c (stopped x) = refl
 
-pub end-summary : (at total : ℕ) → summary at (rest [] [] total) ≡ found (at ∷ []) total
-end-summary at total = ap (λ (m : ℕ). found (m ∷ []) total) (add-zero at)
+  pub end-summary : (total : ℕ) → summary g at (rest [] [] total) ≡ found (at ∷ []) total
+  end-summary total = ap (λ (m : ℕ). found (m ∷ []) total) (add-zero at)
 
 -- ---- the shape, from the places
 
@@ -61,15 +66,15 @@ shaped h (found l total) = record { found = Whole h; count = pred (length l); to
 shaped h (halted x) = refusing x
 
 -- there is one place more than routes
-pub length-places : (at : ℕ) (es : List Entry) → length (places at es) ≡ suc (length es)
-length-places at [] = refl
-length-places at (e ∷ es) = ap suc (length-places (behind at e) es)
+pub length-places : (g : Bool) (at : ℕ) (es : List Entry) → length (places g at es) ≡ suc (length es)
+length-places g at [] = refl
+length-places g at (e ∷ es) = ap suc (length-places g (behind g at e) es)
 
-pub shape-shaped : (h : Head) (k : Rest) → shaped h (summary 19 k) ≡ shapeBy (rec.Head h) k
+pub shape-shaped : (h : Head) (k : Rest) → shaped h (summary (h .grouped) 19 k) ≡ shapeBy (rec.Head h) k
 unfolding shapeBy
 shape-shaped h (rest cs ts total) =
-    ap (λ (n : ℕ). record { found = Whole h; count = pred n; total = total; places = padded (places (19 + 9 * length cs) (entriesOf ts)) })
-    (length-places (19 + 9 * length cs) (entriesOf ts) ∙ ap suc (length-map ts (λ t. t .entry)))
+    ap (λ (n : ℕ). record { found = Whole h; count = pred n; total = total; places = padded (places (h .grouped) (19 + 9 * length cs) (entriesOf ts)) })
+    (length-places (h .grouped) (19 + 9 * length cs) (entriesOf ts) ∙ ap suc (length-map ts (λ t. t .entry)))
 shape-shaped h (stopped x) = refl
 
 -- one place more is a store behind the others

@@ -1,5 +1,5 @@
 -- What a step takes from the front of the bytes: the record that stands there, whole, with what was tested of it.
-use mathlib.Core.Path.{_≡_, refl}
+use mathlib.Core.Path.{_≡_, refl, ap}
 use mathlib.Core.Bool.{true, false, not, _||_}
 use mathlib.Core.List.{List, [], _∷_}
 use Prim.Native.Nat.{ℕ, _≤_, _<_}
@@ -10,6 +10,8 @@ use borrow.Author.Tests.{ltb-false, leb-false, eqb-false, not-false}
 use Rattle.job.specs.Fields.{biasedOf}
 use Rattle.job.proofs.Decoded.{by-test}
 use Rattle.network.proofs.Tests.{neither}
+use Rattle.plan.specs.declared.Head.{Head}
+use Rattle.plan.specs.Records.{routeSize}
 use Rattle.records.specs.declared.Record.{Record}
 use Rattle.records.specs.declared.Record.the-variants as rec
 use Rattle.records.specs.Records.{whole, decoded, recordOf}
@@ -17,13 +19,14 @@ use Rattle.book.specs.declared.Corner.{Corner}
 use Rattle.book.specs.declared.Walk.{Walk}
 use Rattle.book.specs.declared.Step.{Step}
 use Rattle.book.specs.declared.Step.the-variants as step
-use Rattle.book.specs.Parse.{inRange, noTurn, cornerStep, stepBy, stepOf}
+use Rattle.book.specs.Parse.{inRange, noTurn, cornerStep, mixed, stepBy, stepOf, isGrouped}
+use Rattle.book.proofs.Tests.{not-mixed}
 
--- ---- a record is as long as its kind says
+-- ---- a record is as long as its kind says, and a head's kind tells the set of kinds
 
 abbrev pub Long : List ℕ → Record → Type 0
-Long b (rec.Head h) = 19 ≤ length b
-Long b (rec.Route number meets corners) = 7 ≤ length b
+Long b (rec.Head h) = (19 ≤ length b) × (isGrouped b ≡ h .grouped)
+Long b (rec.Route g number meets corners centre) = routeSize g ≤ length b
 Long b (rec.Corner x y) = 9 ≤ length b
 Long b (rec.End total) = 3 ≤ length b
 Long b rec.Other = Unit {0}
@@ -32,25 +35,31 @@ whole-long : (kind size : ℕ) (b : List ℕ) (g : Record) → (size ≤ length 
 whole-long kind size b g f = by-test (Long (kind ∷ b)) (ltb (length b) size) (λ _. tt) (λ l. f (ltb-false (length b) size l))
 
 decoded-long : (kind : ℕ) (b : List ℕ) → Long (kind ∷ b) (decoded kind b)
-unfolding decoded
+unfolding decoded routeSize
 decoded-long kind b =
     let P = Long (kind ∷ b) in
-    by-test P (eqb kind 0x50) (λ _. whole-long kind 18 b _ (λ l. omega arith))
+    by-test P (eqb kind 0x51) (λ t. whole-long kind 18 b _ (λ l. (omega arith, t)))
+    (λ t. by-test P (eqb kind 0x50) (λ _. whole-long kind 18 b _ (λ l. (omega arith, t)))
+    (λ _. by-test P (eqb kind 0x4F) (λ _. whole-long kind 8 b _ (λ l. omega arith))
     (λ _. by-test P (eqb kind 0x4E) (λ _. whole-long kind 6 b _ (λ l. omega arith))
     (λ _. by-test P (eqb kind 0x43) (λ _. whole-long kind 8 b _ (λ l. omega arith))
-    (λ _. by-test P (eqb kind 0x5A) (λ _. whole-long kind 2 b _ (λ l. omega arith)) (λ _. tt))))
+    (λ _. by-test P (eqb kind 0x5A) (λ _. whole-long kind 2 b _ (λ l. omega arith)) (λ _. tt))))))
 
 pub record-long : (b : List ℕ) → Long b (recordOf b)
 unfolding recordOf
 record-long [] = tt
 record-long (kind ∷ b) = decoded-long kind b
 
+-- the first byte tells the set of kinds that a head has
+pub head-grouped : (s : List ℕ) (h : Head) → recordOf s ≡ rec.Head h → isGrouped s ≡ h .grouped
+head-grouped s h e = (rw e at (record-long s)) .1
+
 -- ---- what is taken
 
--- a route: there were fewer than 32
-pub record TookRoute (b : List ℕ) (w : Walk) (g : Record) (number meets said : ℕ) : Type 0 where
-  pub is : g ≡ rec.Route number meets said
-  pub long : 7 ≤ length b
+-- a route of the book's set of kinds: there were fewer than 32
+pub record TookRoute (b : List ℕ) (w : Walk) (g : Record) (number meets said centre : ℕ) : Type 0 where
+  pub is : g ≡ rec.Route (w .grouped) number meets said centre
+  pub long : routeSize (w .grouped) ≤ length b
   pub room : w .routes < 32
 
 -- a corner of a route that has fewer than 127, in range, which turns
@@ -72,7 +81,7 @@ pub record TookEnd (b : List ℕ) (g : Record) (total : ℕ) : Type 0 where
   pub short : length b ≤ 3
 
 abbrev pub Took : List ℕ → Walk → Record → Step → Type 0
-Took b w g (step.Route number meets said) = TookRoute b w g number meets said
+Took b w g (step.Route number meets said centre) = TookRoute b w g number meets said centre
 Took b w g (step.Corner c) = TookCorner b w g c
 Took b w g (step.End total) = TookEnd b g total
 Took b w g (step.Refuse x) = Unit {0}
@@ -80,8 +89,12 @@ Took b w g (step.Refuse x) = Unit {0}
 took-by : (at : ℕ) (w : Walk) (b : List ℕ) (g : Record) → Long b g → Took b w g (stepBy at w (length b) g)
 unfolding stepBy cornerStep
 took-by at w b (rec.Head h) l = tt
-took-by at w b (rec.Route number meets said) l =
-    by-test (Took b w (rec.Route number meets said)) (leb 32 (w .routes)) (λ _. tt) (λ k. record { is = refl; long = l; room = leb-false 32 (w .routes) k })
+took-by at w b (rec.Route g number meets said centre) l =
+    by-test (Took b w (rec.Route g number meets said centre)) (mixed g (w .grouped) || leb 32 (w .routes)) (λ _. tt)
+    (λ k.
+    let (kinds, few) = neither (mixed g (w .grouped)) (leb 32 (w .routes)) k in
+    let same = not-mixed g (w .grouped) kinds in
+    record { is = ap (λ q. rec.Route q number meets said centre) same; long = rw same at l; room = leb-false 32 (w .routes) few })
 took-by at w b (rec.Corner x y) l =
     let P = Took b w (rec.Corner x y) in
     let c : Corner = record { x = biasedOf x; y = biasedOf y } in

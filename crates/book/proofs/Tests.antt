@@ -1,4 +1,4 @@
--- The test for a turn as facts about the corner and the two before it, and back.
+-- The test for a turn as facts about the corner and the two before it, and back; and that for two sets of kinds.
 use mathlib.Core.Path.{_≡_, refl, sym, ap, ap₂, _∙_}
 use mathlib.Core.Logic.{_⊎_, inl, inr}
 use mathlib.Core.Bool.{Bool, true, false, not, _&&_, _||_, true≢false}
@@ -10,7 +10,7 @@ use Rattle.network.proofs.Lanes.{point-path}
 use Rattle.network.proofs.Tests.{and-split, or-split, neither, is-false}
 use Rattle.book.specs.declared.Corner.{Corner}
 use Rattle.book.specs.declared.Walk.{Walk}
-use Rattle.book.specs.Parse.{pointOf, noTurn}
+use Rattle.book.specs.Parse.{pointOf, noTurn, mixed}
 use Rattle.book.specs.Right.{Joined, Turned}
 
 -- ---- of two tests
@@ -29,6 +29,18 @@ one-holds false false e = let z : _≡_ {A = Bool} true false = e in absurd (tru
 holds-one : (a b : Bool) → OneHolds a b → (a && b || not a && not b) ≡ false
 holds-one a b (first e f) = rw (e, f) refl
 holds-one a b (second e f) = rw (e, f) refl
+
+-- two sets of kinds that are not mixed are the same
+pub not-mixed : (a b : Bool) → mixed a b ≡ false → a ≡ b
+not-mixed true true e = refl
+not-mixed false false e = refl
+not-mixed true false e = let z : _≡_ {A = Bool} true false = e in absurd (true≢false z)
+not-mixed false true e = let z : _≡_ {A = Bool} true false = e in absurd (true≢false z)
+
+-- one is not mixed with itself
+pub mixed-same : (a : Bool) → mixed a a ≡ false
+mixed-same true = refl
+mixed-same false = refl
 
 -- points are joined exactly if one coordinate is the same
 joined-one : (p q : Point) → Joined p q → OneHolds (eqb (p .x) (q .x)) (eqb (p .y) (q .y))

@@ -3,6 +3,7 @@
 -- Assumes nothing.
 use mathlib.Core.Path.{_≡_}
 use mathlib.Core.Logic.{_⊎_}
+use mathlib.Core.Bool.{Bool}
 use mathlib.Core.List.{List, [], _∷_}
 use Prim.Native.Nat.{_≤_, _<_}
 use lib.ListN.{length}
@@ -10,7 +11,7 @@ use Rattle.network.specs.Lists.{All}
 use Rattle.network.specs.Plane.{Point}
 use Rattle.plan.specs.declared.Head.{Head}
 use Rattle.plan.specs.Plan.{Entry}
-use Rattle.plan.specs.Fits.{PointIn, HeadFits}
+use Rattle.plan.specs.Fits.{PointIn, HeadFits, CentreFits}
 
 -- two points that differ, on one row or one column
 pub record Joined (p q : Point) : Type 0 where
@@ -29,10 +30,11 @@ Turning (p ∷ []) = Unit {0}
 Turning (p ∷ q ∷ []) = Joined p q
 Turning (p ∷ q ∷ r ∷ l) = Joined p q × Turned p q r × Turning (q ∷ r ∷ l)
 
--- an entry: one corner or more, and at most 127
-pub record RightEntry (e : Entry) : Type 0 where
+-- an entry of a book with this set of kinds: one corner or more, and at most 127
+pub record RightEntry (grouped : Bool) (e : Entry) : Type 0 where
   pub number-fits : e .number < 65536
   pub meets-fits : e .meets < 65536
+  pub centre-fits : CentreFits grouped (e .centre)
   pub some : 0 < length (e .corners)
   pub few : length (e .corners) ≤ 127
   pub in-range : All PointIn (e .corners)
@@ -43,4 +45,4 @@ pub record RightBook (h : Head) (es : List Entry) : Type 0 where
   pub head-fits : HeadFits h
   pub runs : h .runs ≡ length es
   pub few : length es ≤ 32
-  pub entries : All RightEntry es
+  pub entries : All (RightEntry (h .grouped)) es

@@ -27,9 +27,9 @@ refusing x = record { found = Refused x; count = 0; total = 0; places = padded [
 -- by the first record and the records behind it; the routes stand behind the corners that are left of the route at hand
 unfoldable pub shapeBy : Record → Rest → Shape
 shapeBy (rec.Head h) (rest cs ts total) =
-    record { found = Whole h; count = length ts; total = total; places = padded (places (19 + 9 * length cs) (entriesOf ts)) }
+    record { found = Whole h; count = length ts; total = total; places = padded (places (h .grouped) (19 + 9 * length cs) (entriesOf ts)) }
 shapeBy (rec.Head h) (stopped x) = refusing x
-shapeBy (rec.Route number meets said) k = refusing (NotWhole 0)
+shapeBy (rec.Route grouped number meets said centre) k = refusing (NotWhole 0)
 shapeBy (rec.Corner x y) k = refusing (NotWhole 0)
 shapeBy (rec.End total) k = refusing (NotWhole 0)
 shapeBy rec.Other k = refusing (NotWhole 0)
@@ -39,7 +39,7 @@ shapeOf book = shapeBy (recordOf book) (restOf book)
 
 -- the number of corners that a route record says
 abbrev pub saidOf : Record → ℕ
-saidOf (rec.Route number meets corners) = corners
+saidOf (rec.Route grouped number meets corners centre) = corners
 saidOf (rec.Head h) = 0
 saidOf (rec.Corner x y) = 0
 saidOf (rec.End total) = 0
@@ -52,7 +52,7 @@ pub data Passes (s : List ℕ) (at : ℕ) (w : Walk) : (to : ℕ) → Walk → T
 
 -- a step that takes no corner
 abbrev pub Stops : Step → Stop → Type 0
-Stops st stop.Route = (number : ℕ) × (meets : ℕ) × (said : ℕ) × (st ≡ step.Route number meets said)
+Stops st stop.Route = (number : ℕ) × (meets : ℕ) × (said : ℕ) × (centre : ℕ) × (st ≡ step.Route number meets said centre)
 Stops st (stop.End total) = st ≡ step.End total
 Stops st (stop.Refuse x) = st ≡ step.Refuse x
 

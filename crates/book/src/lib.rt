@@ -1,4 +1,4 @@
-// Reads a plan book back (document 02, C-12): its figures, its routes and their corners, or the first refusal.
+// Reads a plan book of either set of kinds back (document 02, C-12 and C-16): its figures, its routes and their corners, or the first refusal.
 mod scan;
 mod steps;
 
@@ -6,10 +6,11 @@ use plan::Head;
 use records::Record;
 use refusal::Refusal;
 ghost use mathlib.Core.Path.{_≡_};
-ghost use Prim.Native.Nat.{_<_};
+ghost use Prim.Native.Nat.{_+_, _*_, _≤_, _<_};
 ghost use lib.ListN.{getD, drop};
 ghost use Rattle.records.specs.Records.{recordOf};
-ghost use Rattle.book.specs.Parse.{refused, parsePlan};
+ghost use Rattle.plan.specs.Records.{routeSize};
+ghost use Rattle.book.specs.Parse.{refused, isGrouped, parsePlan};
 ghost use Rattle.book.specs.Shape.{saidOf, shapeOf};
 ghost use Rattle.book.specs.Reading.{figuresOf, routeOf, cornerOf, readingOf, routeBy, cornerBy};
 
@@ -33,12 +34,13 @@ pub enum Figures {
     Nothing,
 }
 
-// A route: its run number, how many runs that one meets, and how many corners the route has.
+// A route: its run number, how many runs that one meets, how many corners the route has, and the run number of its group's centre, 0 in an older book.
 pub enum Route {
     Found {
         number: u32,
         meets: u32,
         corners: u32,
+        centre: u32,
     },
     Nothing,
 }
@@ -55,8 +57,9 @@ pub struct Corner {
     pub y: u32,
 }
 
-// The routes begun, the corners of the last of them, the last of these corners, and whether the one before it is on its column.
+// The set of kinds, the routes begun, the corners of the last of them, the last of these corners, and whether the one before it is on its column.
 pub struct Walk {
+    pub grouped: bool,
     pub routes: usize,
     pub corners: usize,
     pub last: Corner,
@@ -69,6 +72,7 @@ pub enum Step {
         number: u32,
         meets: u32,
         corners: u32,
+        centre: u32,
     },
     Corner(Corner),
     End(u32),
@@ -126,12 +130,13 @@ fn refuse(refusal: Refusal) -> Reading
     Reading {
         answer: Answer::Refused(refusal),
         head: Head {
+            grouped: false,
             job: 0,
             runs: 0,
             trench: 0,
             saved: 0,
             pits: 0,
-            centre: 0,
+            last: 0,
         },
         places: [0; 33],
     }
@@ -143,14 +148,27 @@ fn said_at(book: &[u8], at: usize) -> u32
 {
     let found = record_at(book, at);
     let Record::Route {
+        grouped,
         number,
         meets,
         corners,
+        centre,
     } = found
     else {
         return 0;
     };
     corners
+}
+
+// The place of the end behind so many routes with so many corners in total.
+fn end_of(grouped: bool, routes: usize, corners: usize) -> usize
+    requires { ⌜ (routes ≤ 32) × (corners < 4294967296) ⌝ }
+    ensures { λ r. ⌜ r ≡ 19 + routeSize grouped * routes + 9 * corners ⌝ }
+{
+    if grouped {
+        return 19 + 9 * routes + 9 * corners;
+    }
+    19 + 7 * routes + 9 * corners
 }
 
 // Compares the counts of a book that is whole, in the book's order.
@@ -159,6 +177,7 @@ fn compare(book: &[u8], head: Head, shape: Shape) -> Reading
     ensures { λ r. ⌜ r ≡ readingOf (parsePlan (now (book .entry))) ⌝ }
 {
     let n = shape.count;
+    let size = records::route_size(head.grouped);
     if wide(head.runs) != n {
         return refuse(Refusal::Miscounted(0));
     }
@@ -167,14 +186,14 @@ fn compare(book: &[u8], head: Head, shape: Shape) -> Reading
         let at = wide(shape.places[i]);
         let end = wide(shape.places[i + 1]);
         let said = wide(said_at(book, at));
-        if (end == at + 7) | !(end == at + 7 + 9 * said) {
+        if (end == at + size) | !(end == at + size + 9 * said) {
             return refuse(Refusal::Miscounted(at));
         }
         i += 1;
     }
     let total = wide(shape.total);
     let end = wide(shape.places[n]);
-    if end != 19 + 7 * n + 9 * total {
+    if end != end_of(head.grouped, n, total) {
         return refuse(Refusal::Miscounted(end));
     }
     let places = shape.places;
@@ -222,9 +241,11 @@ pub fn route_in(book: &[u8], places: &[u32], i: usize) -> Route
     }
     let found = record_at(book, at);
     let Record::Route {
+        grouped,
         number,
         meets,
         corners,
+        centre,
     } = found
     else {
         return Route::Nothing;
@@ -233,7 +254,18 @@ pub fn route_in(book: &[u8], places: &[u32], i: usize) -> Route
         number,
         meets,
         corners,
+        centre,
     }
+}
+
+// Whether a book begins with the newer kind of a head.
+fn is_grouped(book: &[u8]) -> bool
+    ensures { λ r. ⌜ r ≡ isGrouped (now (book .entry)) ⌝ }
+{
+    if book.len() == 0 {
+        return false;
+    }
+    book[0] == 0x51
 }
 
 // Corner j of route i of a book, by the places that reading it gave.
@@ -246,7 +278,8 @@ pub fn corner_in(book: &[u8], places: &[u32], i: usize, j: usize) -> Spot
     if j >= 127 {
         return Spot::Nothing;
     }
-    let at = place_in(places, i) + 7 + 9 * j;
+    let size = records::route_size(is_grouped(book));
+    let at = place_in(places, i) + size + 9 * j;
     if at >= place_in(places, i + 1) {
         return Spot::Nothing;
     }

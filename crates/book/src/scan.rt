@@ -41,6 +41,7 @@ fn run_from(book: &[u8], at: usize, w: Walk) -> Run
                 number,
                 meets,
                 corners,
+                centre,
             } => {
                 return Run {
                     at: to,
@@ -76,7 +77,7 @@ pub fn shape_of(book: &[u8]) -> Shape
     };
     let mut places = [0u32; 33];
     let mut at: usize = 19;
-    let mut w = crate::steps::start();
+    let mut w = crate::steps::start(head.grouped);
     loop {
         let run = run_from(book, at, w);
         let walk = run.walk;
@@ -86,7 +87,7 @@ pub fn shape_of(book: &[u8]) -> Shape
             Stop::Route => {
                 places[n] = run.at as u32;
                 w = crate::steps::begin(walk);
-                at = run.at + 7;
+                at = run.at + records::route_size(walk.grouped);
             }
             Stop::End(total) => {
                 places[n] = run.at as u32;

@@ -7,14 +7,15 @@ use refusal::Refusal;
 ghost use mathlib.Core.Path.{_≡_};
 ghost use Prim.Native.Nat.{_≤_, _<_};
 ghost use lib.ListN.{length, drop};
-ghost use Rattle.book.specs.Parse.{start, begun, passed, inRange, noTurn, cornerStep, stepOf};
+ghost use Rattle.book.specs.Parse.{start, begun, passed, inRange, noTurn, cornerStep, mixed, stepOf};
 
 // Before the first route.
-pub fn start() -> Walk
-    ensures { λ r. ⌜ r ≡ start ⌝ }
+pub fn start(grouped: bool) -> Walk
+    ensures { λ r. ⌜ r ≡ start grouped ⌝ }
 {
     let nowhere = Corner { x: 0, y: 0 };
     Walk {
+        grouped,
         routes: 0,
         corners: 0,
         last: nowhere,
@@ -29,6 +30,7 @@ pub fn begin(w: Walk) -> Walk
 {
     let last = w.last;
     Walk {
+        grouped: w.grouped,
         routes: w.routes + 1,
         corners: 0,
         last,
@@ -43,6 +45,7 @@ pub fn pass(w: Walk, c: Corner) -> Walk
 {
     let last = w.last;
     Walk {
+        grouped: w.grouped,
         routes: w.routes,
         corners: w.corners + 1,
         last: c,
@@ -91,6 +94,13 @@ fn corner_step(at: usize, w: Walk, c: Corner) -> Step
     Step::Corner(c)
 }
 
+// Whether two sets of kinds differ.
+fn mixed(a: bool, b: bool) -> bool
+    ensures { λ r. ⌜ r ≡ mixed a b ⌝ }
+{
+    (a & !b) | (!a & b)
+}
+
 // The record at a place, after the head.
 pub fn step_at(book: &[u8], at: usize, w: Walk) -> Step
     requires { ⌜ at ≤ length (now book) ⌝ }
@@ -100,17 +110,20 @@ pub fn step_at(book: &[u8], at: usize, w: Walk) -> Step
     match found {
         Record::Head(_) => Step::Refuse(Refusal::NotWhole(at)),
         Record::Route {
+            grouped,
             number,
             meets,
             corners,
+            centre,
         } => {
-            if w.routes >= 32 {
+            if mixed(grouped, w.grouped) | (w.routes >= 32) {
                 return Step::Refuse(Refusal::NotWhole(at));
             }
             Step::Route {
                 number,
                 meets,
                 corners,
+                centre,
             }
         }
         Record::Corner { x, y } => {

@@ -1,7 +1,8 @@
 // Prints what reading says of each plan book on standard input. A line there is a label, a space and the book's bytes in hexadecimal. A refusal
-// prints its number and place. An accepted book prints 0 0, its figures, and each route: its run number, its meets figure, its number of corners, and
-// these in decimetres, as far as there are answers; of more than 8 the first two, how many are left out, and the last. `differs` follows if reading
-// the book anew tells a route otherwise, or its first or last corner, or if there is an answer past the last one.
+// prints its number and place. An accepted book prints 0 0, its figures, and each route: its run number, its meets figure, its group's centre if the book
+// is of the newer kinds, its number of corners, and these in decimetres, as far as there are answers; of more than 8 the first two, how many are left
+// out, and the last. `differs` follows if reading the book anew tells a route otherwise, or its first or last corner, or if there is an answer past the
+// last one.
 use book::Answer;
 use book::Figures;
 use book::Route;
@@ -43,20 +44,32 @@ fn print_head(head: Head) {
     print_number(head.saved as u64);
     print(b" pits");
     print_number(head.pits as u64);
-    print(b" centre");
-    print_number(head.centre as u64);
+    if head.grouped {
+        print(b" groups");
+    } else {
+        print(b" centre");
+    }
+    print_number(head.last as u64);
 }
 
-fn print_route(route: Route) {
+fn print_centre(grouped: bool, centre: u32) {
+    if grouped {
+        print_number(centre as u64);
+    }
+}
+
+fn print_route(route: Route, grouped: bool) {
     match route {
         Route::Found {
             number,
             meets,
             corners,
+            centre,
         } => {
             print(b" |");
             print_number(number as u64);
             print_number(meets as u64);
+            print_centre(grouped, centre);
             print_number(corners as u64);
         }
         Route::Nothing => {}
@@ -77,8 +90,9 @@ fn print_spot(spot: Spot) {
 // ---- whether two answers are one
 
 fn same_head(a: Head, b: Head) -> bool {
-    let first = (a.job == b.job) & (a.runs == b.runs) & (a.trench == b.trench);
-    first & (a.saved == b.saved) & (a.pits == b.pits) & (a.centre == b.centre)
+    let kinds = (a.grouped & b.grouped) | (!a.grouped & !b.grouped);
+    let first = kinds & (a.job == b.job) & (a.runs == b.runs) & (a.trench == b.trench);
+    first & (a.saved == b.saved) & (a.pits == b.pits) & (a.last == b.last)
 }
 
 fn is_head(figures: Figures, head: Head) -> bool {
@@ -101,18 +115,20 @@ fn no_route(route: Route) -> bool {
             number,
             meets,
             corners,
+            centre,
         } => false,
         Route::Nothing => true,
     }
 }
 
-fn is_route(route: Route, a: u32, b: u32, c: u32) -> bool {
+fn is_route(route: Route, a: u32, b: u32, c: u32, d: u32) -> bool {
     match route {
         Route::Found {
             number,
             meets,
             corners,
-        } => (number == a) & (meets == b) & (corners == c),
+            centre,
+        } => (number == a) & (meets == b) & (corners == c) & (centre == d),
         Route::Nothing => false,
     }
 }
@@ -123,7 +139,8 @@ fn same_route(a: Route, b: Route) -> bool {
             number,
             meets,
             corners,
-        } => is_route(b, number, meets, corners),
+            centre,
+        } => is_route(b, number, meets, corners, centre),
         Route::Nothing => no_route(b),
     }
 }
@@ -229,21 +246,21 @@ fn print_spots(book: &[u8], places: &[u32], i: usize, n: usize) {
     }
 }
 
-fn print_route_at(book: &[u8], places: &[u32], i: usize) {
-    print_route(book::route_in(book, places, i));
+fn print_route_at(book: &[u8], places: &[u32], i: usize, grouped: bool) {
+    print_route(book::route_in(book, places, i), grouped);
     let n = corners_of(book, places, i);
     print_spots(book, places, i, n);
     print_differs(agrees(book, places, i, n));
 }
 
 // Prints the routes up to the first that is not there, and tells how many they are.
-fn print_routes(book: &[u8], places: &[u32]) -> usize {
+fn print_routes(book: &[u8], places: &[u32], grouped: bool) -> usize {
     let mut i: usize = 0;
     while i < book.len() {
         if no_route(book::route_in(book, places, i)) {
             return i;
         }
-        print_route_at(book, places, i);
+        print_route_at(book, places, i, grouped);
         i += 1;
     }
     i
@@ -251,7 +268,7 @@ fn print_routes(book: &[u8], places: &[u32]) -> usize {
 
 fn print_book(book: &[u8], head: Head, places: &[u32]) {
     print_head(head);
-    let n = print_routes(book, places);
+    let n = print_routes(book, places, head.grouped);
     print_differs(is_head(book::figures_of(book), head) & ends_at(book, places, n));
 }
 

@@ -1,8 +1,8 @@
 -- The position of a line among rising lines is the number of lines below it; the edges between neighbouring lines have a length.
 use mathlib.Core.Path.{_≡_, refl, sym, ap, ap₂, _∙_, subst}
-use mathlib.Core.Bool.{Bool, true, false, cond}
+use mathlib.Core.Bool.{Bool, cond}
 use mathlib.Core.Logic.{_⊎_, inl, inr}
-use mathlib.Core.List.{List, [], _∷_}
+use mathlib.Core.List.{List}
 use Prim.Native.Nat.{ℕ, zero, suc, pred, _+_, _-_, _≤_, _<_}
 use native.Mathlib.Nat.{le-refl}
 use native.Mathlib.Numerals.{add-one}
@@ -15,7 +15,7 @@ use Rattle.network.specs.Grid.{Grid, Rising, len, acrossAt, upwardAt}
 use Rattle.network.specs.Route.{Listed}
 use Rattle.network.specs.Graph.{below}
 use Rattle.network.proofs.Numbers.{order}
-use Rattle.network.proofs.Sums.{sum-append}
+use Rattle.network.proofs.Sums.{count-below, count-le}
 use Rattle.network.proofs.Rising.{rising-le, index-le as index-order}
 use Rattle.grid.specs.Tables.{table, padded}
 use Rattle.grid.specs.declared.Axis.{Axis}
@@ -24,24 +24,11 @@ use Rattle.grid.proofs.Tables.{getD-padded, table-same}
 
 -- ---- counting
 
--- one number more
-pub count-below : (t : ℕ → Bool) (n : ℕ) → count t (below (suc n)) ≡ count t (below n) + cond (t n) 1 0
-count-below t n = sum-append (λ i. cond (t i) 1 0) (below n) (n ∷ []) ∙ omega arith
-
 -- tests that are equal below n count the same
 pub count-same : (s t : ℕ → Bool) (n : ℕ) → ((i : ℕ) → i < n → s i ≡ t i) → count s (below n) ≡ count t (below n)
 count-same s t zero h = refl
 count-same s t (suc n) h =
     count-below s n ∙ ap₂ (λ (k : ℕ) (b : Bool). k + cond b 1 0) (count-same s t n (λ i k. h i (omega arith))) (h n (le-refl (suc n))) ∙ sym (count-below t n)
-
--- no more than there are
-pub count-le : (t : ℕ → Bool) (n : ℕ) → count t (below n) ≤ n
-count-le t zero = le-refl 0
-count-le t (suc n) = rw count-below (go (t n) (count-le t n))
-  where
-    go : (b : Bool) → count t (below n) ≤ n → count t (below n) + cond b 1 0 ≤ suc n
-    go true h = omega arith
-    go false h = omega arith
 
 -- ---- the loop's steps
 

@@ -2,8 +2,8 @@
 use mathlib.Core.Path.{_≡_, refl, sym, ap, ap₂, _∙_}
 use mathlib.Core.Bool.{Bool, true, false, not, _&&_, _||_, and-assoc, and-true}
 use mathlib.Core.Logic.{_⊎_, inl, inr}
-use mathlib.Core.List.{List, [], _∷_, _++_, append-nil, List·Memᴰ as Member, List·Memᴰ·head as here, List·Memᴰ·tail as there}
-use Prim.Native.Nat.{ℕ, zero, suc, _≤_, _<_}
+use mathlib.Core.List.{List, [], _∷_, _++_, List·Memᴰ as Member, List·Memᴰ·head as here, List·Memᴰ·tail as there}
+use Prim.Native.Nat.{ℕ, zero, suc, _<_}
 use native.Mathlib.Nat.{eq-or-lt-of-le, le-of-suc-le-suc, not-suc-le-zero}
 use native.Mathlib.Omega.{arith}
 use Rattle.network.specs.Lists.{every, select}
@@ -12,15 +12,6 @@ use Rattle.network.proofs.Lists.{kept, select-cons, select-append}
 use Rattle.network.proofs.Leaves.{below-member}
 
 -- ---- chosen elements
-
--- a choice of a choice
-pub select-select : {A : Type 0} (f t : A → Bool) (l : List A) → select f (select t l) ≡ select (λ a. t a && f a) l
-select-select f t [] = refl
-select-select {A} f t (a ∷ l) = ap (select f) (select-cons t a l) ∙ go (t a) (select-select f t l) ∙ sym (select-cons (λ b. t b && f b) a l)
-  where
-    go : (b : Bool) → select f (select t l) ≡ select (λ c. t c && f c) l → select f (kept b a (select t l)) ≡ kept (b && f a) a (select (λ c. t c && f c) l)
-    go true e = select-cons f a (select t l) ∙ ap (kept (f a) a) e
-    go false e = e
 
 -- tests that are equal at every element choose the same
 pub select-cong : {A : Type 0} (f g : A → Bool) (l : List A) → ((a : A) → Member a l → f a ≡ g a) → select f l ≡ select g l
@@ -32,11 +23,6 @@ select-cong {A} f g (a ∷ l) h =
 pub select-none : {A : Type 0} (f : A → Bool) (l : List A) → ((a : A) → Member a l → f a ≡ false) → select f l ≡ []
 select-none f [] h = refl
 select-none {A} f (a ∷ l) h = select-cons f a l ∙ ap₂ (λ (b : Bool) (k : List A). kept b a k) (h a (here refl)) (select-none f l (λ b m. h b (there m)))
-
--- and where all pass all are
-pub select-all : {A : Type 0} (f : A → Bool) (l : List A) → ((a : A) → Member a l → f a ≡ true) → select f l ≡ l
-select-all f [] h = refl
-select-all {A} f (a ∷ l) h = select-cons f a l ∙ ap₂ (λ (b : Bool) (k : List A). kept b a k) (h a (here refl)) (select-all f l (λ b m. h b (there m)))
 
 -- every chosen element passes
 pub every-select : {A : Type 0} (f t : A → Bool) (l : List A) → every f (select t l) ≡ every (λ a. not (t a) || f a) l
@@ -54,12 +40,6 @@ pub every-append : {A : Type 0} (f : A → Bool) (l k : List A) → every f (l +
 every-append f [] k = refl
 every-append f (a ∷ l) k = ap (λ (r : Bool). f a && r) (every-append f l k) ∙ sym (and-assoc (f a) (every f l) (every f k))
 
--- a part of the test that is the same at every element
-pub every-or : {A : Type 0} (b : Bool) (f : A → Bool) (l : List A) → every (λ a. b || f a) l ≡ b || every f l
-every-or true f [] = refl
-every-or true f (a ∷ l) = every-or true f l
-every-or false f l = refl
-
 -- tests that are equal at every element give equal answers
 pub every-cong : {A : Type 0} (f g : A → Bool) (l : List A) → ((a : A) → Member a l → f a ≡ g a) → every f l ≡ every g l
 every-cong f g [] h = refl
@@ -71,26 +51,9 @@ every-cong f g (a ∷ l) h = ap₂ _&&_ (h a (here refl)) (every-cong f g l (λ 
 pub every-below : (f : ℕ → Bool) (n : ℕ) → every f (below (suc n)) ≡ every f (below n) && f n
 every-below f n = every-append f (below n) (n ∷ []) ∙ ap (λ (r : Bool). every f (below n) && r) (and-true (f n))
 
--- tests that are equal below n give equal answers
-pub every-same : (f g : ℕ → Bool) (n : ℕ) → ((j : ℕ) → j < n → f j ≡ g j) → every f (below n) ≡ every g (below n)
-every-same f g n h = every-cong f g (below n) (λ j m. h j (below-member n j m))
-
 -- and choose the same
 pub select-same : (f g : ℕ → Bool) (n : ℕ) → ((j : ℕ) → j < n → f j ≡ g j) → select f (below n) ≡ select g (below n)
 select-same f g n h = select-cong f g (below n) (λ j m. h j (below-member n j m))
-
--- those below n pass, and no others
-pub select-below : (f : ℕ → Bool) (n m : ℕ) → n ≤ m → ((j : ℕ) → j < n → f j ≡ true) → ((j : ℕ) → n ≤ j → f j ≡ false) → select f (below m) ≡ below n
-select-below f n zero h t e =
-    let z : 0 ≡ n = omega arith in
-    ap below z
-select-below f n (suc m) h t e = go (eq-or-lt-of-le h) (λ k. select-below f n m k t e)
-  where
-    go : (n ≡ suc m) ⊎ (n < suc m) → (n ≤ m → select f (below m) ≡ below n) → select f (below (suc m)) ≡ below n
-    go (inl q) ih = select-all f (below (suc m)) (λ j l. t j (omega (arith, below-member (suc m) j l))) ∙ ap below (sym q)
-    go (inr q) ih =
-        select-append f (below m) (m ∷ [])
-        ∙ ap₂ _++_ (ih (le-of-suc-le-suc q)) (select-cons f m [] ∙ ap (λ (b : Bool). kept b m []) (e m (le-of-suc-le-suc q))) ∙ append-nil (below n)
 
 -- the first that passes
 pub select-first : (f : ℕ → Bool) (n m : ℕ) → m < n → f m ≡ true → ((j : ℕ) → j < m → f j ≡ false) → (rest : List ℕ) × (select f (below n) ≡ m ∷ rest)

@@ -32,7 +32,7 @@ use Rattle.intersection.specs.declared.Box.{Box}
 use Rattle.intersection.specs.declared.Case.{Case}
 use Rattle.intersection.specs.Sets.{has, pack}
 use Rattle.intersection.specs.Cases.{boxOf, Common, Makes, meeting}
-use Rattle.intersection.specs.Star.{meetsIn, neighbourSets}
+use Rattle.intersection.specs.Centres.{meetsIn, neighbourSets}
 use Rattle.intersection.specs.Steps.{sidesOf, boxAt, seen, partSets, Tells, Compared}
 use Rattle.intersection.proofs.Digits.{pack-none}
 use Rattle.intersection.proofs.Members.{pack-add, pack-skip}

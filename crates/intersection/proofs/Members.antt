@@ -3,8 +3,8 @@ use mathlib.Core.Path.{_≡_, refl, sym, ap, ap₂, _∙_}
 use mathlib.Core.Bool.{Bool, true, false, not, cond, _&&_, _||_, true≢false}
 use mathlib.Core.Logic.{_⊎_, inl, inr}
 use mathlib.Core.List.{List, [], _∷_}
-use Prim.Native.Nat.{ℕ, zero, suc, _+_, _*_, _%_, _^_, _≤_, _<_, zero-le}
-use native.Mathlib.Nat.{add-comm, zero-add, one-mul, eq-or-lt-of-le, lt-of-lt-of-le, lt-of-le-of-lt, two-pow-succ}
+use Prim.Native.Nat.{ℕ, zero, suc, _+_, _^_, _≤_, _<_, zero-le}
+use native.Mathlib.Nat.{add-comm, zero-add, one-mul, eq-or-lt-of-le, lt-of-lt-of-le, lt-of-le-of-lt}
 use native.Mathlib.Omega.{arith}
 use lib.Dec.{eqb}
 use lib.ListN.{getD}
@@ -16,12 +16,12 @@ use Rattle.network.specs.Lists.{every, count, select}
 use Rattle.network.specs.Graph.{below}
 use Rattle.network.proofs.Numbers.{order}
 use Rattle.network.proofs.Tests.{same-test}
-use Rattle.network.proofs.Lists.{every-true}
+use Rattle.network.proofs.Lists.{every-true, true-every}
 use Rattle.network.proofs.Leaves.{below-member, member-below}
-use Rattle.grid.proofs.Places.{count-below}
-use Rattle.intersection.specs.Sets.{has, members, pack, everyone}
-use Rattle.intersection.proofs.Digits.{none-has, has-and, shl-one, pack-lt, pack-has, has-pack, has-pack-above, same-set, trailing-below, trailing-at}
-use Rattle.intersection.proofs.Lists.{every-select, every-same, select-same, select-none, select-first, select-below}
+use Rattle.network.proofs.Sums.{count-below}
+use Rattle.intersection.specs.Sets.{has, members, pack}
+use Rattle.intersection.proofs.Digits.{none-has, has-and, pack-lt, pack-has, has-pack, has-pack-above, same-set, trailing-below, trailing-at}
+use Rattle.intersection.proofs.Lists.{every-select, select-none, select-first}
 
 -- ---- how many
 
@@ -46,30 +46,6 @@ pub count-pack : (f : ℕ → Bool) (n : ℕ) → n ≤ 32 → count (has (pack 
 count-pack f n h = sym (ones-count (pack f n) (lt-of-lt-of-le (pack-lt f n) (pow-mono h))) ∙ ones-pack f n
 
 -- ---- the members of the set of a test
-
--- its members are the numbers that pass
-pub members-pack : (f : ℕ → Bool) → members (pack f 32) ≡ select f (below 32)
-unfolding members
-members-pack f = select-same (has (pack f 32)) f 32 (λ j l. has-pack f 32 j l)
-
--- the first n numbers
-pub members-first : (n : ℕ) → n ≤ 32 → members (pack everyone n) ≡ below n
-unfolding members
-members-first n h = select-below (has (pack everyone n)) n 32 h (λ j l. has-pack everyone n j l) (λ j l. has-pack-above everyone n j l)
-
--- that set is 2 ^ n less 1
-power-first : (n : ℕ) → pack everyone n + 1 ≡ 2 ^ n
-unfolding pack
-power-first zero = refl
-power-first (suc n) = omega (arith, power-first n, two-pow-succ n)
-
--- the first n numbers, as the code computes their set
-pub first-is : (n : ℕ) → n ≤ 32 → pack everyone n + 1 ≡ 1 * 2 ^ n % 2 ^ 64
-first-is n h = power-first n ∙ sym (shl-one 64 n (omega arith))
-
--- it fits a word
-pub first-fits : (n : ℕ) → n ≤ 32 → pack everyone n < 2 ^ 32
-first-fits n h = lt-of-lt-of-le (pack-lt everyone n) (pow-mono h)
 
 -- ---- the lowest
 
@@ -102,22 +78,6 @@ module _ (s : ℕ) (h : s < 2 ^ 32) where
       go (inl e) = e ∙ sym (ap (λ (l : List ℕ). getD l 0 32) (lowest-none e .1))
       go (inr l) = sym (ap (λ (l : List ℕ). getD l 0 32) (lowest-some l .1 .1))
 
-  -- the word 0 has no member
-  pub members-none : s ≡ 0 → members s ≡ []
-  members-none e = go (eq-or-lt-of-le (trailing-le 32 s))
-    where
-      go : (trailingZeros 32 s ≡ 32) ⊎ (trailingZeros 32 s < 32) → members s ≡ []
-      go (inl t) = lowest-none t .1
-      go (inr l) = absurd (omega (arith, lowest-some l .0))
-
-  -- and has a first member if it is not
-  pub members-some : 0 < s → (c : ℕ) × (rest : List ℕ) × (members s ≡ c ∷ rest)
-  members-some p = go (eq-or-lt-of-le (trailing-le 32 s))
-    where
-      go : (trailingZeros 32 s ≡ 32) ⊎ (trailingZeros 32 s < 32) → (c : ℕ) × (rest : List ℕ) × (members s ≡ c ∷ rest)
-      go (inl t) = absurd (omega (arith, lowest-none t .0))
-      go (inr l) = (trailingZeros 32 s, lowest-some l .1 .0, lowest-some l .1 .1)
-
 -- ---- a part of another set
 
 -- a part, digit by digit, and back
@@ -141,7 +101,7 @@ subset-is a b h = same-test (eqb (bitAnd a b) a) (every (has b) (members a)) the
     there : eqb (bitAnd a b) a ≡ true → every (has b) (select (has a) (below 32)) ≡ true
     there e =
         let q = eqb-true (bitAnd a b) a e in
-        rule ∙ every-same (λ j. not (has a j) || has b j) everyone 32 (λ j l. implied (has a j) (has b j) (sym (has-and a b j) ∙ ap (λ (m : ℕ). has m j) q))
+        rule ∙ true-every (λ j. not (has a j) || has b j) (below 32) (λ j m. implied (has a j) (has b j) (sym (has-and a b j) ∙ ap (λ (m : ℕ). has m j) q))
 
     back : every (has b) (select (has a) (below 32)) ≡ true → eqb (bitAnd a b) a ≡ true
     back e =

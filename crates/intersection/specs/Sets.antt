@@ -1,6 +1,6 @@
 -- Sets of numbers below 32, each a word of 32 digits: i is a member where digit i is 1.
 use mathlib.Core.List.{List}
-use mathlib.Core.Bool.{Bool, true, cond}
+use mathlib.Core.Bool.{Bool, cond}
 use Prim.Native.Nat.{ℕ, zero, suc, _+_, _/_, _%_, _^_}
 use lib.Dec.{eqb}
 use Rattle.network.specs.Lists.{select}
@@ -18,7 +18,3 @@ members s = select (has s) (below 32)
 unfoldable pub pack : (ℕ → Bool) → ℕ → ℕ
 pack f zero = 0
 pack f (suc n) = cond (f n) (2 ^ n) 0 + pack f n
-
--- the test that every number passes
-abbrev pub everyone : ℕ → Bool
-everyone i = true

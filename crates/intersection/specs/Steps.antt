@@ -1,19 +1,17 @@
--- What the functions between say: boxes by their sides, the sets while the runs are compared, and the two tests of a centre.
+-- What the functions between say: boxes by their sides, and the sets while the runs are compared.
 use mathlib.Core.Path.{_≡_}
 use mathlib.Core.List.{List}
-use mathlib.Core.Bool.{Bool, false, not, cond, _&&_, _||_}
+use mathlib.Core.Bool.{Bool, false, cond}
 use Prim.Native.Nat.{ℕ, suc, _<_, min, max}
-use lib.Dec.{eqb, ltb}
+use lib.Dec.{ltb}
 use lib.ListN.{getD}
-use Rattle.network.specs.Lists.{every}
-use Rattle.network.specs.Graph.{isCentre}
 use Rattle.grid.specs.Tables.{table, padded}
 use Rattle.intersection.specs.declared.Sides.{Sides}
 use Rattle.intersection.specs.declared.Box.{Box}
 use Rattle.intersection.specs.declared.Case.{Case}
-use Rattle.intersection.specs.Sets.{has, members, pack}
+use Rattle.intersection.specs.Sets.{pack}
 use Rattle.intersection.specs.Cases.{Common, Makes, meeting}
-use Rattle.intersection.specs.Star.{neighbourSets}
+use Rattle.intersection.specs.Centres.{neighbourSets}
 
 -- ---- boxes
 
@@ -52,13 +50,3 @@ abbrev pub AllCompared : (ℕ → Box) → ℕ → List ℕ → List ℕ → Typ
 AllCompared box i old new =
     (joined : ℕ → ℕ → Bool) → ((j : ℕ) → j < i → Tells box joined i j) → joined i i ≡ false
     → old ≡ neighbourSets joined i → new ≡ neighbourSets joined (suc i)
-
--- ---- centres
-
--- i is c, or joined to none of the group but c
-abbrev pub leafOf : (ℕ → ℕ → Bool) → List ℕ → ℕ → ℕ → Bool
-leafOf joined group c i = every (λ j. eqb i c || eqb j c || not (joined i j)) group
-
--- c is one of the centres of a group that is given as a set
-abbrev pub centreIn : (ℕ → ℕ → Bool) → ℕ → ℕ → Bool
-centreIn joined group c = has group c && isCentre joined (members group) c

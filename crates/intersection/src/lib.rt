@@ -1,15 +1,14 @@
-// Which runs of a job meet, and the star that they form.
+// Which runs of a job meet, and the centre of each run's group.
+pub mod finder;
 pub mod sets;
 
 ghost use mathlib.Core.Path.{_≡_};
-ghost use Prim.Native.Nat.{_+_, _≤_, _<_};
+ghost use Prim.Native.Nat.{_≤_, _<_};
 ghost use Rattle.grid.specs.Runs.{runsHeld};
-ghost use Rattle.network.specs.Lists.{every};
-ghost use Rattle.network.specs.Graph.{below, degree, isCentre, centres};
-ghost use Rattle.intersection.specs.Sets.{members, pack};
+ghost use Rattle.network.specs.Graph.{below, degree};
 ghost use Rattle.intersection.specs.Cases.{Common, Makes, meeting};
-ghost use Rattle.intersection.specs.Star.{meetsIn, neighbourSets, joinedIn, starOf};
-ghost use Rattle.intersection.specs.Steps.{sidesOf, boxAt, Compared, AllCompared, leafOf, centreIn};
+ghost use Rattle.intersection.specs.Centres.{meetsIn, neighbourSets, joinedIn};
+ghost use Rattle.intersection.specs.Steps.{sidesOf, boxAt, Compared, AllCompared};
 
 // The sides of all runs' boxes on one axis: the lower of each run's two values, and the higher.
 pub struct Sides {
@@ -159,79 +158,10 @@ pub fn neighbours(
     sets
 }
 
-// The centre of a star by its index, or none.
-pub enum Star {
-    Centre(usize),
-    NoStar,
-}
-
 // How many runs run i meets.
 pub fn meets_of(neighbours: &[u32; 32], i: usize) -> u32
     requires { ⌜ i < 32 ⌝ }
     ensures { λ r. ⌜ (r ≡ degree (joinedIn (now (neighbours .entry))) (below 32) i) × (r ≤ 32) ⌝ }
 {
     sets::size(neighbours[i])
-}
-
-// Run i is c, or meets no run of the group but c.
-fn is_leaf(neighbours: &[u32; 32], group: u32, c: usize, i: usize) -> bool
-    requires { ⌜ (c < 32) × (i < 32) ⌝ }
-    ensures { λ r. ⌜ r ≡ leafOf (joinedIn (now (neighbours .entry))) (members group) c i ⌝ }
-{
-    let met = sets::both(neighbours[i], group);
-    let centre = sets::add(0, c);
-    (i == c) | sets::subset(met, centre)
-}
-
-// Every run of the group is c or a leaf.
-fn are_leaves(neighbours: &[u32; 32], group: u32, c: usize) -> bool
-    requires { ⌜ c < 32 ⌝ }
-    ensures { λ r. ⌜ r ≡ every (leafOf (joinedIn (now (neighbours .entry))) (members group) c) (members group) ⌝ }
-{
-    let mut i: usize = 0;
-    while i < 32 {
-        if sets::member(group, i) & !is_leaf(neighbours, group, c, i) {
-            return false;
-        }
-        i += 1;
-    }
-    true
-}
-
-// Run c meets every other run of the group, and no two others meet.
-fn is_centre(neighbours: &[u32; 32], group: u32, c: usize) -> bool
-    requires { ⌜ c < 32 ⌝ }
-    ensures { λ r. ⌜ r ≡ isCentre (joinedIn (now (neighbours .entry))) (members group) c ⌝ }
-{
-    if sets::subset(group, sets::add(neighbours[c], c)) {
-        return are_leaves(neighbours, group, c);
-    }
-    false
-}
-
-// The centres below c, with c if it is one.
-fn with_centre(neighbours: &[u32; 32], group: u32, c: usize, found: u32) -> u32
-    requires { ⌜ (c < 32) × (found ≡ pack (centreIn (joinedIn (now neighbours)) group) c) ⌝ }
-    ensures { λ r. ⌜ r ≡ pack (centreIn (joinedIn (now (neighbours .entry))) group) (c + 1) ⌝ }
-{
-    if sets::member(group, c) & is_centre(neighbours, group, c) {
-        return sets::add(found, c);
-    }
-    found
-}
-
-// The star of a group: its lowest centre.
-pub fn star_of(neighbours: &[u32; 32], group: u32) -> Star
-    ensures { λ r. ⌜ r ≡ starOf (centres (joinedIn (now (neighbours .entry))) (members group)) ⌝ }
-{
-    let mut found: u32 = 0;
-    let mut c: usize = 0;
-    while c < 32 {
-        found = with_centre(neighbours, group, c, found);
-        c += 1;
-    }
-    if found == 0 {
-        return Star::NoStar;
-    }
-    Star::Centre(sets::lowest(found) as usize)
 }

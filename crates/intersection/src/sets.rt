@@ -1,13 +1,12 @@
 // Sets of numbers below 32, each a word whose digit i is 1 where i is a member.
 ghost use mathlib.Core.Path.{_≡_};
-ghost use mathlib.Core.Bool.{_&&_, _||_};
-ghost use Prim.Native.Nat.{ℕ, _≤_, _<_};
+ghost use mathlib.Core.Bool.{_||_};
+ghost use Prim.Native.Nat.{ℕ, _<_};
 ghost use lib.Dec.{eqb};
 ghost use lib.ListN.{getD};
 ghost use Rattle.network.specs.Lists.{every, count};
 ghost use Rattle.network.specs.Graph.{below};
-ghost use Rattle.intersection.specs.Sets.{has, members, pack};
-ghost use Rattle.intersection.specs.Sets.{everyone};
+ghost use Rattle.intersection.specs.Sets.{has, members};
 
 pub fn member(s: u32, i: usize) -> bool
     requires { ⌜ i < 32 ⌝ }
@@ -22,13 +21,6 @@ pub fn add(s: u32, i: usize) -> u32
     ensures { λ r. ⌜ ((j : ℕ) → has r j ≡ (eqb j i || has s j)) ⌝ }
 {
     s | (1 << i)
-}
-
-// The members that a and b have in common.
-pub fn both(a: u32, b: u32) -> u32
-    ensures { λ r. ⌜ ((j : ℕ) → has r j ≡ (has a j && has b j)) ⌝ }
-{
-    a & b
 }
 
 // Every member of a is a member of b.
@@ -50,12 +42,4 @@ pub fn lowest(s: u32) -> u32
     ensures { λ r. ⌜ r ≡ getD (members s) 0 32 ⌝ }
 {
     u32::trailing_zeros(s)
-}
-
-// The numbers below n.
-pub fn first(n: usize) -> u32
-    requires { ⌜ n ≤ 32 ⌝ }
-    ensures { λ r. ⌜ r ≡ pack everyone n ⌝ }
-{
-    ((1u64 << n) - 1) as u32
 }

@@ -1,7 +1,8 @@
 // Reads jobs as text, one a line: the number of runs, then for each run its first x, first y, second x and second y. Prints for each job the
-// numbers of columns and of rows, each run's meets figure, and the index of the centre, or `none`. The stored figures are those of a plain
-// enumeration: meets by listing all grid edges in each box, the centre by trying every run.
-use intersection::Star;
+// numbers of columns and of rows, each run's meets figure, and the number of groups and the index of the centre of each run's group; or `centres none` where some
+// group is no star. The stored figures are those of a plain enumeration: meets by listing all grid edges in each box, groups by joining runs that meet until
+// nothing changes, the centre of a group by trying every run of it.
+use intersection::finder::Centres;
 use libc::STDOUT_FILENO;
 ghost use Prim.Native.Nat.{_≤_, _<_};
 ghost use lib.ListN.{length};
@@ -138,9 +139,9 @@ fn job_at(text: &[u8], at: usize) -> Job
     }
 }
 
-fn print_figure(n: u32) {
+fn print_figure(n: u64) {
     io::write_all(STDOUT_FILENO, b" ");
-    io::print_decimal(STDOUT_FILENO, n as u64);
+    io::print_decimal(STDOUT_FILENO, n);
 }
 
 fn print_meets(neighbours: &[u32; 32], n: usize)
@@ -148,20 +149,40 @@ fn print_meets(neighbours: &[u32; 32], n: usize)
 {
     let mut i: usize = 0;
     while i < n {
-        print_figure(intersection::meets_of(neighbours, i));
+        print_figure(intersection::meets_of(neighbours, i) as u64);
         i += 1;
     }
 }
 
-fn print_star(star: Star) {
-    match star {
-        Star::Centre(c) => {
-            io::print_decimal(STDOUT_FILENO, c as u64);
-        }
-        Star::NoStar => {
-            io::write_all(STDOUT_FILENO, b"none");
-        }
+fn print_centres(centres: &[usize; 32], n: usize)
+    requires { ⌜ n ≤ 32 ⌝ }
+{
+    let mut i: usize = 0;
+    while i < n {
+        print_figure(centres[i] as u64);
+        i += 1;
     }
+}
+
+fn centres_of(x1: &[u32; 32], y1: &[u32; 32], x2: &[u32; 32], y2: &[u32; 32], n: usize) -> Centres
+    requires { ⌜ n ≤ 32 ⌝ }
+{
+    let neighbours = intersection::neighbours(x1, y1, x2, y2, n);
+    intersection::finder::centres_of(&neighbours, n)
+}
+
+fn print_found(found: Centres, n: usize)
+    requires { ⌜ n ≤ 32 ⌝ }
+{
+    if !found.stars {
+        io::write_all(STDOUT_FILENO, b" centres none");
+        return;
+    }
+    let centres = found.centres;
+    io::write_all(STDOUT_FILENO, b" groups");
+    print_figure(intersection::finder::count_groups(&centres, n) as u64);
+    io::write_all(STDOUT_FILENO, b" centres");
+    print_centres(&centres, n);
 }
 
 fn print_job(x1: &[u32; 32], y1: &[u32; 32], x2: &[u32; 32], y2: &[u32; 32], n: usize)
@@ -176,8 +197,7 @@ fn print_job(x1: &[u32; 32], y1: &[u32; 32], x2: &[u32; 32], y2: &[u32; 32], n: 
     io::print_decimal(STDOUT_FILENO, rows.count as u64);
     io::write_all(STDOUT_FILENO, b" meets");
     print_meets(&neighbours, n);
-    io::write_all(STDOUT_FILENO, b" centre ");
-    print_star(intersection::star_of(&neighbours, intersection::sets::first(n)));
+    print_found(centres_of(x1, y1, x2, y2, n), n);
     io::write_all(STDOUT_FILENO, b"\n");
 }
 

@@ -1,40 +1,29 @@
--- The routes that are laid, on the grid: each is a Manhattan route of its run, and together they are best.
-use mathlib.Core.Path.{_≡_, refl, sym, ap, ap₂, _∙_}
+-- The routes that are laid, on the grid: each is a Manhattan route of its run.
+use mathlib.Core.Path.{_≡_, refl, ap, ap₂, _∙_}
 use mathlib.Core.Bool.{Bool, true, false}
-use mathlib.Core.List.{List, [], map}
-use Prim.Native.Nat.{ℕ, _≤_, _<_}
+use mathlib.Core.List.{List}
+use Prim.Native.Nat.{ℕ, _<_}
 use native.Mathlib.Omega.{arith}
 use borrow.Author.Tests.{leb-true, leb-false}
 use lib.Dec.{leb}
-use lib.ListN.{length, length-map, getD, take}
-use lib.Seq.{length-take-le}
+use lib.ListN.{length}
 use Rattle.network.specs.Plane.{Point, Run, gap}
 use Rattle.network.specs.Grid.{Grid}
-use Rattle.network.specs.Route.{Manhattan}
-use Rattle.network.specs.Graph.{runAt, meets, below, isCentre}
-use Rattle.network.specs.Steps.{Dir, hor, ver, steps, Lane, extent, at, Fits, vertex, Frame, drawn}
+use Rattle.network.specs.Graph.{runAt}
+use Rattle.network.specs.Steps.{Dir, hor, ver, steps, Lane, extent, at, Fits, vertex, Frame}
 use Rattle.network.proofs.Numbers.{gap-rise, gap-fall}
 use Rattle.network.proofs.Lanes.{point-path}
-use Rattle.network.proofs.Drawn.{from-steps}
 use Rattle.sharing.specs.Trace.{Move}
-use Rattle.sharing.specs.Table.{Table, Exact, figure}
-use Rattle.sharing.specs.Walk.{Traced}
-use Rattle.sharing.specs.Star.{starOf, Best}
-use Rattle.sharing.specs.View.{lines, Indexed}
-use Rattle.sharing.proofs.Theorem.{star-best}
+use Rattle.sharing.specs.View.{Indexed}
 use Rattle.route.specs.declared.Route.{Route}
-use Rattle.route.specs.Route.{stepsOf, lane, columnsOf, rowsOf, drawnOf, OnGrid}
+use Rattle.route.specs.Route.{lane, columnsOf, rowsOf, OnGrid}
 use Rattle.table.specs.declared.side.Side.{Side}
 use Rattle.table.specs.Side.{firstOf, secondOf}
-use Rattle.table.specs.OnSides.{firstAt, secondAt, OnSides, viewBy, boxBy}
-use Rattle.table.proofs.Survey.{sides-centred}
+use Rattle.table.specs.OnSides.{firstAt, secondAt, OnSides}
 use Rattle.layout.specs.declared.Points.{Points}
 use Rattle.layout.specs.Points.{pointsOf}
-use Rattle.route.proofs.Lanes.{lane-extent}
-use Rattle.layout.specs.Laid.{unlaid, Layable, Laid, AllLaid}
-use Rattle.layout.proofs.Lists.{mapped-at}
+use Rattle.layout.specs.Laid.{Layable, Laid}
 use Rattle.layout.proofs.Laying.{leads-apart}
-use Rattle.layout.proofs.Fitting.{steps-lifted, steps-are, traced-layable}
 
 -- ---- the lane from one line to another
 
@@ -83,8 +72,6 @@ module _ (a e : Points) (c : ℕ) (moves : List Move) (k : ℕ) (r : Route) (S :
         rows-fit = rw rows-are (lane-fits (g .rows) (e .y .first) (e .y .second) (y .0) (y .1));
       }
 
--- ---- all routes
-
 -- ---- on the grid of the runs
 
 -- the point where the lines with two indexes cross
@@ -108,29 +95,3 @@ module _ (g : Grid) (runs : List Run) (xs ys : Side) (c leaves : ℕ) (S : OnSid
         upto = ap₂ (vertex g) (ap (λ z. at z (extent z)) X ∙ lane-upto (firstOf xs k) (secondOf xs k)) (ap (λ z. at z (extent z)) Y ∙ lane-upto (firstOf ys k) (secondOf ys k))
             ∙ vertex-at g _ (secondAt xs ys k) q;
       }
-
-  -- and is a Manhattan route of it
-  pub laid-manhattan : (k : ℕ) → k < length runs → (r : Route) → Layable (pointsOf xs ys c) (pointsOf xs ys k) c moves k
-      → Laid (pointsOf xs ys c) (pointsOf xs ys k) c moves k r → Manhattan g (runAt runs k) (drawnOf g r)
-  laid-manhattan k h r a l =
-      from-steps g (runAt runs k) (columnsOf r) (rowsOf r) (laid-frame k h r a l) (stepsOf r)
-      (record { all-columns = sym (lane-extent (r .right) (r .start .column) _); all-rows = sym (lane-extent (r .up) (r .start .row) _) })
-
-  module _ (few : (d : Dir) → length (lines g d) ≤ 64) (h : c < length runs) (star : isCentre (meets g runs) (below (length runs)) c ≡ true) (T : Table)
-      (exact : Exact (starOf (viewBy g xs ys c) runs (boxBy g xs ys c) c) T) (traced : Traced (starOf (viewBy g xs ys c) runs (boxBy g xs ys c) c) T moves)
-      (routes : List Route) (full : length runs ≤ length routes) (laid : AllLaid xs ys (length runs) c moves routes) where
-    -- THEOREM: the routes that are laid by the moves traced in a star's table save what the table says, and no routes save more
-    pub laid-best : Best g runs (map (drawnOf g) (take (length runs) routes)) (figure (starOf (viewBy g xs ys c) runs (boxBy g xs ys c) c) T)
-    laid-best =
-        let v = viewBy g xs ys c in
-        let box = boxBy g xs ys c in
-        let C = sides-centred g runs xs ys c leaves S h star in
-        let all = traced-layable g runs xs ys c leaves S few C star T moves traced in
-        let route : ℕ → Route = λ k. getD routes k unlaid in
-        star-best v runs box c C T moves traced (λ k. columnsOf (route k)) (λ k. rowsOf (route k))
-        (λ k i. laid-frame k i (route k) (all .layable k i) (laid .laid k i))
-        (map (drawnOf g) (take (length runs) routes)) star exact
-        (length-map (take (length runs) routes) (drawnOf g) ∙ length-take-le (length runs) routes full)
-        (λ k i. mapped-at (drawnOf g) (length runs) routes k unlaid [] i full
-        ∙ ap (drawn g (columnsOf (route k)) (rowsOf (route k)))
-        (laid .laid k i .goes ∙ steps-lifted g runs xs ys c leaves S few moves h k i ∙ steps-are g runs xs ys c leaves S few C star T moves traced k i))

@@ -1,21 +1,20 @@
--- All runs of a star can be laid by the centre's moves that are traced in its table: the boxes that the code works with have the steps of the boxes on the
+-- The runs of a group can be laid by the centre's moves that are traced in its table: the boxes that the code works with have the steps of the boxes on the
 -- grid, each leaf's steps lead from its first point to its second, and the moves that are shared with it are consecutive.
 use mathlib.Core.Path.{_≡_, sym, ap, ap₂, _∙_}
+use mathlib.Core.Logic.{_⊎_, inl, inr}
 use mathlib.Core.Bool.{Bool, true, false, cond}
 use mathlib.Core.List.{List, reverse, reverse-reverse}
 use Prim.Native.Nat.{ℕ, _+_, _-_, _≤_, _<_}
 use native.Mathlib.Omega.{arith}
-use native.Mathlib.Decide.{ℕ-discrete}
 use borrow.Author.Tests.{eq-eqb, ne-eqb}
 use lib.Dec.{eqb}
 use lib.ListN.{length}
 use Rattle.network.specs.Plane.{Run, gap}
 use Rattle.network.specs.Grid.{Grid}
-use Rattle.network.specs.Graph.{meets, below, isCentre}
+use Rattle.network.specs.Graph.{meets}
 use Rattle.network.specs.Steps.{Dir, hor, ver, steps}
 use Rattle.network.proofs.Numbers.{gap-rise}
-use Rattle.network.proofs.Centres.{centre-true}
-use Rattle.network.proofs.Leaves.{member-below}
+use Rattle.network.proofs.Meeting.{meets-true}
 use Rattle.sharing.specs.Table.{Table}
 use Rattle.sharing.specs.Trace.{Move}
 use Rattle.sharing.specs.Walk.{dirs, moved, Traced}
@@ -27,7 +26,7 @@ use Rattle.sharing.proofs.Centre.{leaf-is, separate}
 use Rattle.table.specs.declared.side.Side.{Side}
 use Rattle.table.specs.OnSides.{firstAt, secondAt, OnSides, viewBy, boxBy}
 use Rattle.layout.specs.Points.{pointsOf, goesBack, box64}
-use Rattle.layout.specs.Laid.{stepsBy, AllLayable}
+use Rattle.layout.specs.Laid.{stepsBy, Layable}
 use Rattle.layout.proofs.Consecutive.{kept-together}
 use Rattle.layout.proofs.Lifting.{gap-lifted, lifted, via-lifted}
 
@@ -67,49 +66,42 @@ module _ (g : Grid) (runs : List Run) (xs ys : Side) (c leaves : ℕ) (S : OnSid
 
   -- ---- the moves
 
-  module _ (C : Centred (viewBy g xs ys c) runs (boxBy g xs ys c) c) (star : isCentre (meets g runs) (below (length runs)) c ≡ true) (T : Table) (moves : List Move)
+  module _ (C : Centred (viewBy g xs ys c) runs (boxBy g xs ys c) c) (T : Table) (moves : List Move)
       (traced : Traced (starOf (viewBy g xs ys c) runs (boxBy g xs ys c) c) T moves) where
-    -- every other run is a leaf
-    others : (k : ℕ) → k < length runs → ¬ (k ≡ c) → meets g runs c k ≡ true
-    others k h n = centre-true (meets g runs) (below (length runs)) c (member-below (length runs) c (C .listed)) star .joins k (member-below (length runs) k h) n
+    -- run k is the centre or a leaf
+    abbrev InGroup : ℕ → Type 0
+    InGroup k = (k ≡ c) ⊎ (meets g runs c k ≡ true)
+
+    not-centre : (k : ℕ) → meets g runs c k ≡ true → ¬ (k ≡ c)
+    not-centre k m e = meets-true g runs c k m .0 (sym e)
 
     -- the steps by the boxes are those of the star
-    pub steps-are : (k : ℕ) → k < length runs
+    pub steps-are : (k : ℕ) → InGroup k
         → stepsBy (boxBy g xs ys c c) (boxBy g xs ys c k) c moves k ≡ stepsOf (starOf (viewBy g xs ys c) runs (boxBy g xs ys c) c) c moves k
-    steps-are k h = go (ℕ-discrete k c)
-      where
-        go : Dec (k ≡ c) → stepsBy (boxBy g xs ys c c) (boxBy g xs ys c k) c moves k ≡ stepsOf (starOf (viewBy g xs ys c) runs (boxBy g xs ys c) c) c moves k
-        go (yes e) = rw (eq-eqb k c e)
-        go (no n) =
-            ap (λ b. cond (eqb k c) (dirs moves) (via b (λ d. boxBy g xs ys c c .first d + moved d (before k moves)) (dirs (stretch k moves))))
-            (sym (leaf-is (viewBy g xs ys c) runs (boxBy g xs ys c) c C k (others k h n)))
+    steps-are k (inl e) = rw (eq-eqb k c e)
+    steps-are k (inr m) =
+        ap (λ b. cond (eqb k c) (dirs moves) (via b (λ d. boxBy g xs ys c c .first d + moved d (before k moves)) (dirs (stretch k moves))))
+        (sym (leaf-is (viewBy g xs ys c) runs (boxBy g xs ys c) c C k m))
 
-    leads : (k : ℕ) → k < length runs → (d : Dir)
+    leads : (k : ℕ) → InGroup k → (d : Dir)
         → steps d (stepsBy (boxBy g xs ys c c) (boxBy g xs ys c k) c moves k) ≡ gap (boxBy g xs ys c k .first d) (boxBy g xs ys c k .second d)
-    leads k h d = go (ℕ-discrete k c)
-      where
-        go : Dec (k ≡ c) → steps d (stepsBy (boxBy g xs ys c c) (boxBy g xs ys c k) c moves k) ≡ gap (boxBy g xs ys c k .first d) (boxBy g xs ys c k .second d)
-        go (yes e) =
-            rw (eq-eqb k c e, e) (omega (arith, traced .leads d, gap-rise (boxBy g xs ys c c .first d) (boxBy g xs ys c c .second d) (C .rises d)))
-        go (no n) =
-            let v = viewBy g xs ys c in
-            let box = boxBy g xs ys c in
-            let I = starOf v runs box c in
-            ap (steps d) (steps-are k h ∙ ap (λ t. cond t (dirs moves) (leafSteps I k moves)) (ne-eqb k c n))
-            ∙ (rw reverse-reverse at (leaf-leads I (separate v runs box c C) k (reverse moves) (traced .kept) d))
-            ∙ ap (λ b. gap (b .first d) (b .second d)) (leaf-is v runs box c C k (others k h n))
+    leads k (inl e) d =
+        rw (eq-eqb k c e, e) (omega (arith, traced .leads d, gap-rise (boxBy g xs ys c c .first d) (boxBy g xs ys c c .second d) (C .rises d)))
+    leads k (inr m) d =
+        let v = viewBy g xs ys c in
+        let box = boxBy g xs ys c in
+        let I = starOf v runs box c in
+        ap (steps d) (steps-are k (inr m) ∙ ap (λ t. cond t (dirs moves) (leafSteps I k moves)) (ne-eqb k c (not-centre k m)))
+        ∙ (rw reverse-reverse at (leaf-leads I (separate v runs box c C) k (reverse moves) (traced .kept) d))
+        ∙ ap (λ b. gap (b .first d) (b .second d)) (leaf-is v runs box c C k m)
 
-    -- the moves fit
-    pub traced-layable : AllLayable xs ys (length runs) c moves
-    traced-layable =
+    -- the moves fit a run of the group
+    pub traced-layable : (k : ℕ) → k < length runs → InGroup k → Layable (pointsOf xs ys c) (pointsOf xs ys k) c moves k
+    traced-layable k h p =
         record {
-          few = S .few;
-          centre = C .listed;
-          layable = λ k h. record {
-            in-columns = (omega (arith, S .first-at k h .fits hor, few hor), omega (arith, S .second-at k h .fits hor, few hor));
-            in-rows = (omega (arith, S .first-at k h .fits ver, few ver), omega (arith, S .second-at k h .fits ver, few ver));
-            leads = λ d. ap (steps d) (steps-lifted moves (C .listed) k h) ∙ leads k h d
-                ∙ sym (ap₂ gap (first-lifted k h d) (second-lifted k h d) ∙ gap-lifted (lift d) (boxBy g xs ys c k .first d) (boxBy g xs ys c k .second d));
-            together = λ n. kept-together (starOf (viewBy g xs ys c) runs (boxBy g xs ys c) c) (separate (viewBy g xs ys c) runs (boxBy g xs ys c) c C) k moves (traced .kept);
-          };
+          in-columns = (omega (arith, S .first-at k h .fits hor, few hor), omega (arith, S .second-at k h .fits hor, few hor));
+          in-rows = (omega (arith, S .first-at k h .fits ver, few ver), omega (arith, S .second-at k h .fits ver, few ver));
+          leads = λ d. ap (steps d) (steps-lifted moves (C .listed) k h) ∙ leads k p d
+              ∙ sym (ap₂ gap (first-lifted k h d) (second-lifted k h d) ∙ gap-lifted (lift d) (boxBy g xs ys c k .first d) (boxBy g xs ys c k .second d));
+          together = λ n. kept-together (starOf (viewBy g xs ys c) runs (boxBy g xs ys c) c) (separate (viewBy g xs ys c) runs (boxBy g xs ys c) c C) k moves (traced .kept);
         }

@@ -1,10 +1,9 @@
--- Lists and tables of any kind: parts that are mapped, the first n entries, and a table that is filled entry by entry.
-use mathlib.Core.Path.{_≡_, refl, ap, _∙_}
+-- Lists of any kind: parts that are mapped, and the first n entries.
+use mathlib.Core.Path.{_≡_, refl, ap}
 use mathlib.Core.List.{List, [], _∷_, map}
-use Prim.Native.Nat.{ℕ, zero, suc, _+_, _≤_, _<_}
+use Prim.Native.Nat.{ℕ, zero, suc, _≤_, _<_}
 use native.Mathlib.Omega.{arith}
-use lib.ListN.{length, getD, set, take, drop}
-use lib.Seq.{getD-set-other}
+use lib.ListN.{length, getD, take, drop}
 use Rattle.network.specs.Lists.{All}
 
 -- a part of a list, mapped
@@ -31,9 +30,3 @@ mapped-at f zero l k d e h i = absurd (omega arith)
 mapped-at f (suc n) [] k d e h i = absurd (omega arith)
 mapped-at f (suc n) (x ∷ l) zero d e h i = refl
 mapped-at f (suc n) (x ∷ l) (suc k) d e h i = mapped-at f n l k d e (omega arith) (omega arith)
-
-module _ {A : Type 0} (d : A) where
-  module _ (t : List A) (k : ℕ) (v : A) (h : k < length t) where
-    -- what is behind an entry that is stored
-    pub set-rest : ((j : ℕ) → k ≤ j → getD t j d ≡ d) → (j : ℕ) → k + 1 ≤ j → getD (set t k v) j d ≡ d
-    set-rest rest j l = getD-set-other t k j v d (λ e. omega arith) ∙ rest j (omega arith)

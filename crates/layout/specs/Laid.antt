@@ -1,7 +1,7 @@
--- The route that is laid for each run: "a path of grid edges between its two points" (01, Routes and sharing), held as steps on the grid's lines. The
--- centre's is its moves, and a leaf's goes by way of the stretch that it shares with the centre.
+-- The route that is laid for each run: "a path of grid edges between its two points" (01, Routes and sharing), held as steps on the grid's lines. A
+-- centre's is its moves, and a leaf's goes by way of the stretch that it shares with its centre.
 use mathlib.Core.Path.{_≡_}
-use mathlib.Core.Bool.{true, cond}
+use mathlib.Core.Bool.{false, cond}
 use mathlib.Core.List.{List, _++_}
 use Prim.Native.Nat.{ℕ, _+_, _≤_, _<_}
 use lib.Dec.{eqb, leb}
@@ -41,7 +41,7 @@ begun steps n run =
 
 -- the route of no run
 abbrev pub unlaid : Route
-unlaid = record { steps = replicate 128 0; count = 0; start = record { column = 0; row = 0 }; right = true; up = true }
+unlaid = record { steps = replicate 128 0; count = 0; start = record { column = 0; row = 0 }; right = false; up = false }
 
 -- the steps of run k in a star of centre c, by their boxes: `stepsOf` of sharing, where every other run is a leaf
 abbrev pub stepsBy : (centre run : Box) → ℕ → List Move → ℕ → List Dir
@@ -55,11 +55,12 @@ pub record Layable (centre run : Points) (c : ℕ) (moves : List Move) (k : ℕ)
   pub leads : (d : Dir) → steps d (stepsBy (box64 centre centre) (box64 centre run) c moves k) ≡ gap (box64 centre run .first d) (box64 centre run .second d)
   pub together : (k ≡ c → ⊥) → Together k moves
 
--- so can n runs, of which c is the centre
-pub record AllLayable (xs ys : Side) (n c : ℕ) (moves : List Move) : Type 0 where
+-- so can those of the first n runs that have the centre c, and c is one of them
+pub record GroupLayable (xs ys : Side) (n : ℕ) (centres : List ℕ) (c : ℕ) (moves : List Move) : Type 0 where
   pub few : n ≤ 32
   pub centre : c < n
-  pub layable : (k : ℕ) → k < n → Layable (pointsOf xs ys c) (pointsOf xs ys k) c moves k
+  pub own : getD centres c 0 ≡ c
+  pub layable : (k : ℕ) → k < n → getD centres k 0 ≡ c → Layable (pointsOf xs ys c) (pointsOf xs ys k) c moves k
 
 -- run k is a leaf that shares moves with the centre, and s says where they stand
 pub record Stretched (centre leaf : Points) (c : ℕ) (moves : List Move) (k : ℕ) (s : Stretch) : Type 0 where
@@ -78,7 +79,7 @@ pub record Laid (centre run : Points) (c : ℕ) (moves : List Move) (k : ℕ) (r
   pub rightward : r .right ≡ leb (run .x .first) (run .x .second)
   pub upward : r .up ≡ leb (run .y .first) (run .y .second)
 
--- the routes of the first n runs, and nothing behind them
-pub record AllLaid (xs ys : Side) (n c : ℕ) (moves : List Move) (routes : List Route) : Type 0 where
-  pub laid : (k : ℕ) → k < n → Laid (pointsOf xs ys c) (pointsOf xs ys k) c moves k (getD routes k unlaid)
-  pub rest : (k : ℕ) → n ≤ k → getD routes k unlaid ≡ unlaid
+-- of the first n runs, those that have the centre c have their routes; the other routes are the old ones
+pub record GroupLaid (xs ys : Side) (n : ℕ) (centres : List ℕ) (c : ℕ) (moves : List Move) (old new : List Route) : Type 0 where
+  pub laid : (k : ℕ) → k < n → getD centres k 0 ≡ c → Laid (pointsOf xs ys c) (pointsOf xs ys k) c moves k (getD new k unlaid)
+  pub others : (k : ℕ) → (k < n → getD centres k 0 ≡ c → ⊥) → getD new k unlaid ≡ getD old k unlaid

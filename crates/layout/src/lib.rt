@@ -1,4 +1,4 @@
-// From the centre's moves to the route of every run, as steps on the grid's lines. A run is known by its index, and its points by the indexes of their
+// From a centre's moves to the routes of its group, as steps on the grid's lines. A run is known by its index, and its points by the indexes of their
 // lines on the two axes (`xs` and `ys`). The centre's moves are the trace of the table: steps (0 along the row, any other along the column), and for each
 // the leaf that it is shared with (32 or above: none).
 use route::Route;
@@ -22,7 +22,7 @@ ghost use Rattle.table.specs.Walk.{movesOf};
 ghost use Rattle.layout.specs.Points.{OnLines, numberOf};
 ghost use Rattle.layout.specs.Stretch.{alongRow, nothing, grown, Found};
 ghost use Rattle.layout.specs.Way.{wayOf, passesForth, legOf};
-ghost use Rattle.layout.specs.Laid.{Longer, begun, Layable, Stretched, AllLayable, Laid, AllLaid};
+ghost use Rattle.layout.specs.Laid.{Longer, begun, Layable, Stretched, GroupLayable, Laid, GroupLaid};
 
 // The moves that are shared with a leaf: `size` moves from index `from` on. Of the moves before them `across` go along the row, and of themselves
 // `wide`.
@@ -304,10 +304,19 @@ fn route_of(centre: Points, run: Points, c: usize, k: usize, moves: Trace, s: St
     leaf_route(centre, run, moves, s)
 }
 
-// The routes of the first n runs. The points of a run are looked up here: handed on, the sides would be copied for each run.
-pub fn routes(xs: Side, ys: Side, n: usize, centre: usize, moves: Trace) -> [Route; 32]
-    requires { ⌜ AllLayable xs ys n centre (movesOf moves) ⌝ }
-    ensures { λ r. ⌜ AllLaid xs ys n centre (movesOf moves) r ⌝ }
+// The routes with those of the runs below n that have this centre laid by its moves; the others stay. The points of a run are looked up here: handed on, the sides
+// would be copied for each run.
+pub fn lay_group(
+    xs: Side,
+    ys: Side,
+    n: usize,
+    centres: &[usize; 32],
+    centre: usize,
+    moves: Trace,
+    routes: [Route; 32],
+) -> [Route; 32]
+    requires { ⌜ GroupLayable xs ys n (now centres) centre (movesOf moves) ⌝ }
+    ensures { λ r. ⌜ GroupLaid xs ys n (now (centres .entry)) centre (movesOf moves) routes r ⌝ }
 {
     let middle = both_points(
         xs.first[centre],
@@ -316,18 +325,14 @@ pub fn routes(xs: Side, ys: Side, n: usize, centre: usize, moves: Trace) -> [Rou
         ys.second[centre],
     );
     let found = stretches(moves);
-    let mut t = [Route {
-        steps: [0u8; 128],
-        count: 0,
-        start: Vertex { column: 0, row: 0 },
-        right: true,
-        up: true,
-    }; 32];
+    let mut t = routes;
     let mut k: usize = 0;
     while k < n {
-        let run = both_points(xs.first[k], ys.first[k], xs.second[k], ys.second[k]);
-        let s = found[k];
-        t[k] = route_of(middle, run, centre, k, moves, s);
+        if centres[k] == centre {
+            let run = both_points(xs.first[k], ys.first[k], xs.second[k], ys.second[k]);
+            let s = found[k];
+            t[k] = route_of(middle, run, centre, k, moves, s);
+        }
         k += 1;
     }
     t

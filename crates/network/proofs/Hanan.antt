@@ -75,7 +75,7 @@ pub listed-distinct : (l : List ℕ) (v : ℕ) → Listed l v → Listed (distin
 listed-distinct l v (i, h, e) = member-index 0 (member-distinct l (Memᴰ·cast (sym e) (index-member 0 l i h)))
 
 -- a rising list is determined by its numbers, so it is the only rising list with those numbers
-rising-unique : (l k : List ℕ) → Rising l → Rising k → ((v : ℕ) → Member v l → Member v k) → ((v : ℕ) → Member v k → Member v l) → l ≡ k
+pub rising-unique : (l k : List ℕ) → Rising l → Rising k → ((v : ℕ) → Member v l → Member v k) → ((v : ℕ) → Member v k → Member v l) → l ≡ k
 rising-unique [] [] r s f h = refl
 rising-unique [] (b ∷ k) r s f h = absurd (List·Memᴰ·not-nil (h b (here refl)))
 rising-unique (a ∷ l) [] r s f h = absurd (List·Memᴰ·not-nil (f a (here refl)))

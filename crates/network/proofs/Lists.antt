@@ -2,7 +2,7 @@
 use mathlib.Core.Path.{_≡_, refl, sym, ap, ap₂, _∙_, subst}
 use mathlib.Core.Logic.{_⊎_, inl, inr, ⊎-elim}
 use mathlib.Core.List.{List, [], _∷_, _++_, map, map-append, flatten, flatMap, List·Memᴰ as Member, List·Memᴰ·head as here, List·Memᴰ·tail as there, List·Memᴰ·not-nil, List·Memᴰ·cases-cons, Memᴰ·append-left, Memᴰ·append-right, List·Memᴰ·append-cases}
-use mathlib.Core.Bool.{Bool, true, false, _||_, or-assoc, true≢false, false≢true}
+use mathlib.Core.Bool.{Bool, true, false, _&&_, _||_, or-assoc, true≢false, false≢true}
 use Prim.Native.Nat.{ℕ, zero, suc, _≤_, _<_}
 use native.Mathlib.Nat.{eq-or-lt-of-le}
 use native.Mathlib.Omega.{arith}
@@ -59,6 +59,15 @@ every-true t h (there {x} {xs} m) = every-true t (and-split (t x) (every t xs) h
 pub true-every : {A : Type 0} (t : A → Bool) (l : List A) → ((a : A) → Member a l → t a ≡ true) → every t l ≡ true
 true-every t [] h = refl
 true-every t (a ∷ l) h = and-join (t a) (every t l) (h a (here refl)) (true-every t l (λ b m. h b (there m)))
+
+-- where not every one passes, one fails
+pub every-fails : {A : Type 0} (t : A → Bool) (l : List A) → every t l ≡ false → (a : A) × Member a l × (t a ≡ false)
+every-fails t [] h = absurd (true≢false h)
+every-fails {A} t (a ∷ l) h = go (t a) refl h (every-fails t l)
+  where
+    go : (b : Bool) → t a ≡ b → b && every t l ≡ false → (every t l ≡ false → (c : A) × Member c l × (t c ≡ false)) → (c : A) × Member c (a ∷ l) × (t c ≡ false)
+    go true e k rest = let (c, m, f) = rest k in (c, there m, f)
+    go false e k rest = (a, here refl, e)
 
 -- an element is selected exactly if it is in the list and passes the test
 pub selected-member : {A : Type 0} {a : A} (t : A → Bool) (l : List A) → Member a (select t l) → Member a l × (t a ≡ true)

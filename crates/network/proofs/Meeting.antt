@@ -3,22 +3,24 @@
 -- The two ends of an edge in both boxes are such points. What two boxes have in common is the rectangle from the greater of the low sides to the lesser of
 -- the high sides, in x and in y. Where two points lie in it, it is longer than a point, say in x; its lower left corner is a vertex, since all sides
 -- are lines of the grid, and the edge from there along the row ends at the next column, which is at most the rectangle's right side.
-use mathlib.Core.Path.{_≡_, refl, sym, ap, ap₂, subst}
+use mathlib.Core.Path.{_≡_, refl, sym, ap, ap₂, _∙_, subst}
+use mathlib.Core.Logic.{_⊎_, inl, inr}
 use mathlib.Core.List.{List}
-use mathlib.Core.Bool.{Bool, true, false, not, _&&_, and-comm}
+use mathlib.Core.Bool.{Bool, true, false, not, _&&_, and-comm, true≢false}
 use Prim.Native.Nat.{ℕ, suc, _≤_, _<_, min, max}
 use native.Mathlib.Nat.{le-of-eq, le-trans, le-min, max-le, min-le-left, min-le-right, le-max-left, le-max-right}
 use native.Mathlib.Decide.{ℕ-discrete}
 use native.Mathlib.Omega.{arith}
 use borrow.Author.Tests.{eqb-true, eqb-false, eq-eqb, ne-eqb, not-true}
 use lib.Dec.{eqb}
-use lib.ListN.{length, getD}
+use lib.ListN.{length, getD, List·getD-eq-default}
 use Rattle.network.specs.Plane.{Point, Run, _to_}
 use Rattle.network.specs.Grid.{Rising, Grid, Edge, acrossAt, upwardAt, edges, inside}
 use Rattle.network.specs.Route.{Listed}
-use Rattle.network.specs.Graph.{overlap, runAt, meets}
+use Rattle.network.specs.Graph.{overlap, origin, runAt, meets}
 use Rattle.network.specs.Steps.{vertex}
 use Rattle.network.specs.Boxes.{Placed}
+use Rattle.network.proofs.Numbers.{order}
 use Rattle.network.proofs.Tests.{and-split, and-join, is-false, same-test, Spans, Within, true-inside, inside-true}
 use Rattle.network.proofs.Lists.{any-cong}
 use Rattle.network.proofs.Rising.{next-line, listed-max, listed-min}
@@ -190,3 +192,14 @@ pub point-overlap : (g : Grid) (r s : Run) → r .first ≡ r .second → overla
 point-overlap g r s e =
     is-false (overlap g r s) (λ h. let (f, o, i, j) = overlap-edge g r s h in
     point-inside g (r .first) f o (subst (λ q. inside f (r .first to q) ≡ true) (sym e) i))
+
+-- so a run that is met is one of the list
+pub meets-listed : (g : Grid) (runs : List Run) (c k : ℕ) → meets g runs c k ≡ true → k < length runs
+meets-listed g runs c k h = go (order (length runs) k)
+  where
+    go : (length runs ≤ k) ⊎ (k < length runs) → k < length runs
+    go (inl o) =
+        let point : runAt runs k ≡ origin to origin = List·getD-eq-default runs (origin to origin) o in
+        absurd (true≢false (sym (meets-true g runs c k h .1) ∙ overlap-comm g (runAt runs c) (runAt runs k)
+        ∙ point-overlap g (runAt runs k) (runAt runs c) (ap (λ (r : Run). r .first) point ∙ sym (ap (λ (r : Run). r .second) point))))
+    go (inr o) = o

@@ -1,11 +1,14 @@
 -- Sums over lists, and over the numbers below a bound.
-use mathlib.Core.Path.{_≡_, refl, ap, ap₂}
-use mathlib.Core.List.{List, [], _∷_, _++_, List·Memᴰ as Member, List·Memᴰ·head as here, List·Memᴰ·tail as there}
+use mathlib.Core.Path.{_≡_, refl, sym, ap, ap₂, _∙_}
+use mathlib.Core.Bool.{Bool, true, false, cond}
+use mathlib.Core.List.{List, [], _∷_, _++_, map, List·Memᴰ as Member, List·Memᴰ·head as here, List·Memᴰ·tail as there}
 use Prim.Native.Nat.{ℕ, zero, suc, _+_, _*_, _≤_, _<_}
-use native.Mathlib.Nat.{suc-mul}
-use native.Mathlib.Decide.{ℕ-discrete}
+use native.Mathlib.Nat.{suc-mul, le-refl}
+use native.Mathlib.Decide.{ℕ-discrete, decLt}
 use native.Mathlib.Omega.{arith}
-use Rattle.network.specs.Lists.{sum, each}
+use lib.ListN.{length, getD}
+use Rattle.network.specs.Lists.{sum, count, select, each}
+use Rattle.network.specs.Graph.{below}
 
 -- ---- over the elements of a list
 
@@ -38,6 +41,45 @@ sum-swap f (a ∷ l) k = omega (arith, sum-add (f a) (λ b. sum (λ c. f c b) l)
 pub sum-append : {A : Type 0} (f : A → ℕ) (l k : List A) → sum f (l ++ k) ≡ sum f l + sum f k
 sum-append f [] k = omega arith
 sum-append f (a ∷ l) k = omega (arith, sum-append f l k)
+
+-- a condition on a sum is one on its terms
+pub cond-sum : {A : Type 0} (b : Bool) (f : A → ℕ) (l : List A) → cond b (sum f l) 0 ≡ sum (λ a. cond b (f a) 0) l
+cond-sum true f l = refl
+cond-sum false f l = sym (sum-zero l)
+
+-- a sum, so many times
+pub sum-times : {A : Type 0} (n : ℕ) (f : A → ℕ) (l : List A) → n * sum f l ≡ sum (λ a. n * f a) l
+sum-times n f [] = omega arith
+sum-times n f (a ∷ l) = omega (arith, sum-times n f l)
+
+-- terms that are no greater, and one that is less
+pub sum-less : {A : Type 0} (f g : A → ℕ) {l : List A} → ((a : A) → Member a l → f a ≤ g a) → {a : A} → Member a l → f a < g a → sum f l < sum g l
+sum-less f g h (here {x} {xs} e) k = omega (arith, ap f e, ap g e, sum-le f g xs (λ b m. h b (there m)))
+sum-less f g h (there {x} {xs} m) k = omega (arith, h x (here refl), sum-less f g (λ b o. h b (there o)) m k)
+
+-- the sum over what is chosen
+pub sum-select : {A : Type 0} (t : A → Bool) (f : A → ℕ) (l : List A) → sum f (select t l) ≡ sum (λ a. cond (t a) (f a) 0) l
+sum-select t f [] = refl
+sum-select {A} t f (a ∷ l) = go (t a) (sum-select t f l)
+  where
+    go : (b : Bool) → sum f (select t l) ≡ sum (λ a. cond (t a) (f a) 0) l
+        → sum f (elim b as (λ u. List A) [ true ↦ a ∷ select t l | false ↦ select t l ]) ≡ cond b (f a) 0 + sum (λ a. cond (t a) (f a) 0) l
+    go true h = omega arith
+    go false h = omega arith
+
+-- the sum over what a list is mapped to
+pub sum-map : {A B : Type 0} (f : B → ℕ) (h : A → B) (l : List A) → sum f (map h l) ≡ sum (λ a. f (h a)) l
+sum-map f h [] = refl
+sum-map f h (a ∷ l) = ap (λ n. f (h a) + n) (sum-map f h l)
+
+-- a sum of ones
+pub sum-ones : {A : Type 0} (l : List A) → sum (λ a. 1) l ≡ length l
+sum-ones [] = refl
+sum-ones (a ∷ l) = omega (arith, sum-ones l)
+
+-- so many are chosen as pass
+pub length-select : {A : Type 0} (t : A → Bool) (l : List A) → length (select t l) ≡ count t l
+length-select t l = sym (sum-ones (select t l)) ∙ sum-select t (λ a. 1) l
 
 -- ---- over 0, 1, .., n - 1
 
@@ -100,3 +142,59 @@ pub double-one : (n m a b : ℕ) (f : ℕ → ℕ → ℕ) → a < n → b < m �
     → sumTo n (λ i. sumTo m (f i)) ≡ f a b
 double-one n m a b f p q h =
     omega (arith, double-more n m a b (f a b) f (λ i j. 0) p q h (omega arith), double-zero n m (λ i j. 0) (λ i j l k. refl))
+
+-- ---- over the numbers below n, and by the numbers of a list's elements
+
+-- the sum over the numbers below n
+pub sum-below : (f : ℕ → ℕ) (n : ℕ) → sum f (below n) ≡ sumTo n f
+sum-below f n = sum-each f n (λ i. i ∷ []) ∙ sumTo-cong n _ _ (λ i h. omega arith)
+
+-- where one of them alone has a term
+pub sum-one : (f : ℕ → ℕ) (n j : ℕ) → j < n → ((i : ℕ) → i < n → (i ≡ j → ⊥) → f i ≡ 0) → sum f (below n) ≡ f j
+sum-one f n j h z = sum-below f n ∙ sumTo-one n j f h z
+
+-- where at most one term is not 0, and that one is at most x, so is the sum
+pub one-term : (f : ℕ → ℕ) (x n : ℕ) → ((k : ℕ) → k < n → 0 < f k → f k ≤ x) → ((j k : ℕ) → j < n → k < n → 0 < f j → 0 < f k → j ≡ k) → sumTo n f ≤ x
+one-term f x zero h u = omega arith
+one-term f x (suc n) h u = go (decLt 0 (f n)) (one-term f x n (λ k l. h k (omega arith)) (λ j k l m. u j k (omega arith) (omega arith)))
+  where
+    none : (k : ℕ) → k < n → 0 < f n → Dec (0 < f k) → f k ≡ 0
+    none k l p (yes q) = absurd (omega (arith, u k n (omega arith) (omega arith) q p))
+    none k l p (no q) = omega arith
+
+    go : Dec (0 < f n) → sumTo n f ≤ x → sumTo n f + f n ≤ x
+    go (yes p) r = omega (arith, sumTo-zero n f (λ k l. none k l p (decLt 0 (f k))), h n (omega arith) p)
+    go (no p) r = omega arith
+
+-- each term is at most the sum
+pub term-le : (f : ℕ → ℕ) (n k : ℕ) → k < n → f k ≤ sumTo n f
+term-le f zero k h = absurd (omega arith)
+term-le f (suc n) k h = go (decLt k n) (term-le f n k)
+  where
+    go : Dec (k < n) → (k < n → f k ≤ sumTo n f) → f k ≤ sumTo n f + f n
+    go (yes l) r = omega (arith, r l)
+    go (no l) r = let e : k ≡ n = omega arith in rw e (omega arith)
+
+-- the sum over a list is the sum over the numbers of its elements
+pub sum-at : {A : Type 0} (f : A → ℕ) (l : List A) (z : A) → sum f l ≡ sumTo (length l) (λ k. f (getD l k z))
+sum-at f [] z = refl
+sum-at {A} f (a ∷ l) z = ap (λ n. f a + n) (sum-at f l z) ∙ sym (front (length l) (λ k. f (getD (a ∷ l) k z)))
+  where
+    front : (n : ℕ) (g : ℕ → ℕ) → sumTo (suc n) g ≡ g 0 + sumTo n (λ k. g (suc k))
+    front zero g = omega arith
+    front (suc n) g = omega (arith, front n g)
+
+-- ---- counting
+
+-- one number more
+pub count-below : (t : ℕ → Bool) (n : ℕ) → count t (below (suc n)) ≡ count t (below n) + cond (t n) 1 0
+count-below t n = sum-append (λ i. cond (t i) 1 0) (below n) (n ∷ []) ∙ omega arith
+
+-- no more than there are
+pub count-le : (t : ℕ → Bool) (n : ℕ) → count t (below n) ≤ n
+count-le t zero = le-refl 0
+count-le t (suc n) = rw count-below (go (t n) (count-le t n))
+  where
+    go : (b : Bool) → count t (below n) ≤ n → count t (below n) + cond b 1 0 ≤ suc n
+    go true h = omega arith
+    go false h = omega arith

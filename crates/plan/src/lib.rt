@@ -1,8 +1,9 @@
-// The plan book: each record is written into the rest of the plan buffer behind the record before it.
+// The plan book: each record is written into the rest of the plan buffer behind the record before it. Only the kinds of document 02, C-16, are written.
 use route::Route;
 use route::Vertex;
 use route::Walker;
 ghost use mathlib.Core.Path.{_≡_};
+ghost use mathlib.Core.Bool.{true};
 ghost use mathlib.Core.List.{map, flatMap};
 ghost use Prim.Native.Nat.{_+_, _*_, _<_, _≤_};
 ghost use lib.ListN.{length, take};
@@ -14,14 +15,16 @@ ghost use Rattle.plan.specs.Writers.{entryAt, entriesAt, WroteRuns};
 ghost use Rattle.plan.specs.Records.{headRecord, routeRecord, cornerRecord};
 ghost use Rattle.plan.specs.Plan.{entryBytes, bookBytes};
 
-// The figures of a plan's head. Of runs, pits and centre the lower two bytes are written.
+// The figures of a plan's head. A grouped one has the kinds of document 02, C-16, and its last figure is the number of groups; that of an older one is the
+// centre's run number. Of runs, pits and the last figure the lower two bytes are written.
 pub struct Head {
+    pub grouped: bool,
     pub job: u32,
     pub runs: u32,
     pub trench: u32,
     pub saved: u32,
     pub pits: u32,
-    pub centre: u32,
+    pub last: u32,
 }
 
 // How many bytes were written, and how many corner records are among them.
@@ -31,28 +34,29 @@ pub struct Written {
 }
 
 fn write_head(out: &mut [u8], head: Head) -> usize
-    requires { ⌜ 19 ≤ length (now out) ⌝ }
+    requires { ⌜ (head .grouped ≡ true) × (19 ≤ length (now out)) ⌝ }
     ensures { λ n. ⌜ Wrote (headRecord head) (now (out .entry)) (now (out .exit)) n ⌝ }
 {
-    fields::put1(out, 0x50);
+    fields::put1(out, 0x51);
     fields::put4(out, 1, head.job);
     fields::put2(out, 5, head.runs);
     fields::put4(out, 7, head.trench);
     fields::put4(out, 11, head.saved);
     fields::put2(out, 15, head.pits);
-    fields::put2(out, 17, head.centre);
+    fields::put2(out, 17, head.last);
     19
 }
 
-fn write_route(out: &mut [u8], number: u32, meets: u32, corners: u32) -> usize
-    requires { ⌜ 7 ≤ length (now out) ⌝ }
-    ensures { λ n. ⌜ Wrote (routeRecord number meets corners) (now (out .entry)) (now (out .exit)) n ⌝ }
+fn write_route(out: &mut [u8], number: u32, meets: u32, corners: u32, centre: u32) -> usize
+    requires { ⌜ 9 ≤ length (now out) ⌝ }
+    ensures { λ n. ⌜ Wrote (routeRecord true number meets corners centre) (now (out .entry)) (now (out .exit)) n ⌝ }
 {
-    fields::put1(out, 0x4E);
+    fields::put1(out, 0x4F);
     fields::put2(out, 1, number);
     fields::put2(out, 3, meets);
     fields::put2(out, 5, corners);
-    7
+    fields::put2(out, 7, centre);
+    9
 }
 
 // The corner record of a vertex, whose coordinates are those of its column and its row.
@@ -92,16 +96,17 @@ fn write_run(
     out: &mut [u8],
     number: u32,
     meets: u32,
+    centre: u32,
     corners: usize,
     route: Route,
     columns: &[u32; 64],
     rows: &[u32; 64],
 ) -> usize
-    requires { ⌜ OnGrid numbered route × (corners ≡ length (cornersOf route)) × (7 + 9 * corners ≤ length (now out)) ⌝ }
-    ensures { λ n. ⌜ Wrote (entryBytes (entryAt (now (columns .entry)) (now (rows .entry)) number meets route))
-        (now (out .entry)) (now (out .exit)) n × (n ≤ 1150) ⌝ }
+    requires { ⌜ OnGrid numbered route × (corners ≡ length (cornersOf route)) × (9 + 9 * corners ≤ length (now out)) ⌝ }
+    ensures { λ n. ⌜ Wrote (entryBytes true (entryAt (now (columns .entry)) (now (rows .entry)) number meets centre route))
+        (now (out .entry)) (now (out .exit)) n × (n ≤ 1152) ⌝ }
 {
-    let at = write_route(out, number, meets, corners as u32);
+    let at = write_route(out, number, meets, corners as u32, centre);
     at + write_corners(&mut out[at..], route, columns, rows)
 }
 
@@ -110,14 +115,17 @@ fn write_runs(
     out: &mut [u8],
     numbers: &[u32; 32],
     meets: &[u32; 32],
+    centres: &[u32; 32],
     routes: [Route; 32],
     count: usize,
     columns: &[u32; 64],
     rows: &[u32; 64],
 ) -> Written
     requires { ⌜ (count ≤ 32) × All (OnGrid numbered) (take count routes)
-        × (length (flatMap entryBytes (entriesAt (now columns) (now rows) (now numbers) (now meets) (take count routes))) ≤ length (now out)) ⌝ }
-    ensures { λ w. ⌜ WroteRuns (entriesAt (now (columns .entry)) (now (rows .entry)) (now (numbers .entry)) (now (meets .entry)) (take count routes))
+        × (length (flatMap (entryBytes true) (entriesAt (now columns) (now rows) (now numbers) (now meets) (now centres) (take count routes)))
+        ≤ length (now out)) ⌝ }
+    ensures { λ w. ⌜ WroteRuns
+        (entriesAt (now (columns .entry)) (now (rows .entry)) (now (numbers .entry)) (now (meets .entry)) (now (centres .entry)) (take count routes))
         (now (out .entry)) (now (out .exit)) w ⌝ }
 {
     let mut at: usize = 0;
@@ -129,6 +137,7 @@ fn write_runs(
             &mut out[at..],
             numbers[i],
             meets[i],
+            centres[i],
             n,
             routes[i],
             columns,
@@ -146,22 +155,26 @@ pub fn write_plan(
     head: Head,
     numbers: &[u32; 32],
     meets: &[u32; 32],
+    centres: &[u32; 32],
     routes: [Route; 32],
     count: usize,
     columns: &[u32; 64],
     rows: &[u32; 64],
 ) -> usize
-    requires { ⌜ (count ≤ 32) × All (OnGrid numbered) (take count routes)
-        × (length (bookBytes head (entriesAt (now columns) (now rows) (now numbers) (now meets) (take count routes))) ≤ length (now out)) ⌝ }
+    requires { ⌜ (head .grouped ≡ true) × (count ≤ 32) × All (OnGrid numbered) (take count routes)
+        × (length (bookBytes head (entriesAt (now columns) (now rows) (now numbers) (now meets) (now centres) (take count routes)))
+        ≤ length (now out)) ⌝ }
     ensures { λ n. ⌜ Wrote
-        (bookBytes head (entriesAt (now (columns .entry)) (now (rows .entry)) (now (numbers .entry)) (now (meets .entry)) (take count routes)))
-        (now (out .entry)) (now (out .exit)) n × (n ≤ 36822) ⌝ }
+        (bookBytes head
+        (entriesAt (now (columns .entry)) (now (rows .entry)) (now (numbers .entry)) (now (meets .entry)) (now (centres .entry)) (take count routes)))
+        (now (out .entry)) (now (out .exit)) n × (n ≤ 36886) ⌝ }
 {
     let start = write_head(out, head);
     let w = write_runs(
         &mut out[start..],
         numbers,
         meets,
+        centres,
         routes,
         count,
         columns,

@@ -1,4 +1,4 @@
--- The listing of a book is the text of what reading it says. A text buffer of 74,421 bytes has room for all of it, and the first 36,823 bytes of the book
+-- The listing of a book is the text of what reading it says. A text buffer of 74,837 bytes has room for all of it, and the first 36,887 bytes of the book
 -- decide it.
 use mathlib.Core.Path.{_≡_, refl, sym, ap, _∙_}
 use mathlib.Core.List.{List, [], append-nil}
@@ -49,8 +49,8 @@ abbrev pub BookListedWhole : Parsed → (text text′ : List ℕ) → ℕ → Ty
 BookListedWhole (accepted h es) text text′ n = Wrote (planText h es) text text′ n
 BookListedWhole (refused x) text text′ n = Wrote (refusalText x) text text′ n
 
--- A text buffer of 74,421 bytes has room for every text.
-pub book-whole : (book text text′ : List ℕ) (n : ℕ) → Bytes book → 74421 ≤ length text → BookListed (parsePlan book) text text′ n
+-- A text buffer of 74,837 bytes has room for every text.
+pub book-whole : (book text text′ : List ℕ) (n : ℕ) → Bytes book → 74837 ≤ length text → BookListed (parsePlan book) text text′ n
     → BookListedWhole (parsePlan book) text text′ n
 book-whole book text text′ n b room l = go (parsePlan book) refl l
   where
@@ -62,8 +62,8 @@ book-whole book text text′ n b room l = go (parsePlan book) refl l
         let place = place-most book x e in
         listed-whole _ text text′ n l (omega (arith, refusal-length x (omega arith)))
 
--- ---- a book of which 36,823 bytes are read
+-- ---- a book of which 36,887 bytes are read
 
--- The first 36,823 bytes of a book decide what is listed of it.
-pub book-prefix : (book text text′ : List ℕ) (n : ℕ) → BookListed (parsePlan (take 36823 book)) text text′ n → BookListed (parsePlan book) text text′ n
-book-prefix book text text′ n l = rw (parse-prefix 36823 book (omega arith)) at l
+-- The first 36,887 bytes of a book decide what is listed of it.
+pub book-prefix : (book text text′ : List ℕ) (n : ℕ) → BookListed (parsePlan (take 36887 book)) text text′ n → BookListed (parsePlan book) text text′ n
+book-prefix book text text′ n l = rw (parse-prefix 36887 book (omega arith)) at l

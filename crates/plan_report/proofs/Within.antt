@@ -1,7 +1,7 @@
 -- A refusal of a book is told at a place among its bytes, or right behind them.
 -- Each record that is taken lies in the book, so the record behind it begins there or right behind the book; so do the records whose counts are compared.
-use mathlib.Core.Path.{_≡_, refl, _∙_}
-use mathlib.Core.Bool.{not, _||_}
+use mathlib.Core.Path.{_≡_, refl, subst, _∙_}
+use mathlib.Core.Bool.{Bool, not, _||_}
 use mathlib.Core.List.{List, [], _∷_}
 use Prim.Native.Nat.{ℕ, zero, suc, _+_, _*_, _≤_}
 use native.Mathlib.Omega.{arith}
@@ -13,6 +13,7 @@ use Rattle.job.proofs.Decoded.{by-test}
 use Rattle.refusal.specs.declared.Refusal.{Refusal}
 use Rattle.refusal.specs.Refusal.{refusalPlace}
 use Rattle.plan.specs.declared.Head.{Head}
+use Rattle.plan.specs.Records.{routeSize}
 use Rattle.plan.specs.Plan.{totalCorners}
 use Rattle.records.specs.declared.Record.{Record}
 use Rattle.records.specs.declared.Record.the-variants as rec
@@ -31,6 +32,7 @@ use Rattle.book.specs.Parse.{
   inRange,
   noTurn,
   cornerStep,
+  mixed,
   stepBy,
   stepOf,
   Told,
@@ -41,6 +43,7 @@ use Rattle.book.specs.Parse.{
   withRoute,
   proceed,
   restFrom,
+  isGrouped,
   restOf,
   entriesOf,
   behind,
@@ -58,7 +61,7 @@ module _ (m : ℕ) where
 
   -- a step that refuses does so at most at m
   abbrev StepIn : Step → Type 0
-  StepIn (step.Route number meets said) = Unit {0}
+  StepIn (step.Route number meets said centre) = Unit {0}
   StepIn (step.Corner c) = Unit {0}
   StepIn (step.End total) = Unit {0}
   StepIn (step.Refuse x) = refusalPlace x ≤ m
@@ -67,7 +70,7 @@ module _ (m : ℕ) where
   step-by : (at : ℕ) (w : Walk) (left : ℕ) (g : Record) → at + left ≤ m → StepIn (stepBy at w left g)
   unfolding stepBy cornerStep
   step-by at w left (rec.Head h) k = omega arith
-  step-by at w left (rec.Route number meets said) k = by-test StepIn (leb 32 (w .routes)) (λ _. omega arith) (λ _. tt)
+  step-by at w left (rec.Route g number meets said centre) k = by-test StepIn (mixed g (w .grouped) || leb 32 (w .routes)) (λ _. omega arith) (λ _. tt)
   step-by at w left (rec.Corner x y) k =
       let c : Corner = record { x = biasedOf x; y = biasedOf y } in
       by-test StepIn (eqb (w .routes) 0 || leb 127 (w .corners)) (λ _. omega arith)
@@ -76,36 +79,38 @@ module _ (m : ℕ) where
   step-by at w left rec.Other k = omega arith
 
   -- the bytes of routes and their corners
-  abbrev sizeOf : List Told → ℕ
-  sizeOf ts = 7 * length ts + 9 * totalCorners (entriesOf ts)
+  abbrev sizeOf : (grouped : Bool) → List Told → ℕ
+  sizeOf g ts = routeSize g * length ts + 9 * totalCorners (entriesOf ts)
 
   -- the records from a place on end at most at m, or are refused at most there
-  abbrev RestIn : (at : ℕ) → Rest → Type 0
-  RestIn at (rest cs ts total) = at + 9 * length cs + sizeOf ts ≤ m
-  RestIn at (stopped x) = refusalPlace x ≤ m
+  abbrev RestIn : (grouped : Bool) (at : ℕ) → Rest → Type 0
+  RestIn g at (rest cs ts total) = at + 9 * length cs + sizeOf g ts ≤ m
+  RestIn g at (stopped x) = refusalPlace x ≤ m
 
   -- one more route in front
-  route-in : (at number meets said : ℕ) (k : Rest) → RestIn (at + 7) k → RestIn at (withRoute number meets said k)
-  route-in at number meets said (rest cs ts total) h = omega arith
-  route-in at number meets said (stopped x) h = h
+  route-in : (g : Bool) (at number meets said centre : ℕ) (k : Rest) → RestIn g (at + routeSize g) k → RestIn g at (withRoute number meets said centre k)
+  route-in g at number meets said centre (rest cs ts total) h = omega arith
+  route-in g at number meets said centre (stopped x) h = h
 
   -- one more corner in front
-  corner-in : (at : ℕ) (c : Corner) (k : Rest) → RestIn (at + 9) k → RestIn at (withCorner c k)
-  corner-in at c (rest cs ts total) h = omega arith
-  corner-in at c (stopped x) h = h
+  corner-in : (g : Bool) (at : ℕ) (c : Corner) (k : Rest) → RestIn g (at + 9) k → RestIn g at (withCorner c k)
+  corner-in g at c (rest cs ts total) h = omega arith
+  corner-in g at c (stopped x) h = h
 
   -- so the records of bytes that end at most at m
-  rest-in : (n at : ℕ) (w : Walk) (b : List ℕ) → at + length b ≤ m → RestIn at (restFrom n at w b)
+  rest-in : (n at : ℕ) (w : Walk) (b : List ℕ) → at + length b ≤ m → RestIn (w .grouped) at (restFrom n at w b)
   unfolding restFrom
   rest-in zero at w b h = omega arith
   rest-in (suc n) at w b h =
       go (stepOf at w b) (step-took at w b) (step-by at w (length b) (recordOf b) h)
       (λ k v l. rest-in n (at + k) v (drop k b) (omega (arith, length-drop k b)))
     where
-      go : (s : Step) → Took b w (recordOf b) s → StepIn s → ((k : ℕ) (v : Walk) → k ≤ length b → RestIn (at + k) (restFrom n (at + k) v (drop k b)))
-          → RestIn at (proceed (restFrom n) at w b s)
-      go (step.Route number meets said) t i later = route-in at number meets said (restFrom n (at + 7) (begun w) (drop 7 b)) (later 7 (begun w) (t .long))
-      go (step.Corner c) t i later = corner-in at c (restFrom n (at + 9) (passed w c) (drop 9 b)) (later 9 (passed w c) (t .long))
+      go : (s : Step) → Took b w (recordOf b) s → StepIn s → ((k : ℕ) (v : Walk) → k ≤ length b → RestIn (v .grouped) (at + k) (restFrom n (at + k) v (drop k b)))
+          → RestIn (w .grouped) at (proceed (restFrom n) at w b s)
+      go (step.Route number meets said centre) t i later =
+          let size = routeSize (w .grouped) in
+          route-in (w .grouped) at number meets said centre (restFrom n (at + size) (begun w) (drop size b)) (later size (begun w) (t .long))
+      go (step.Corner c) t i later = corner-in (w .grouped) at c (restFrom n (at + 9) (passed w c) (drop 9 b)) (later 9 (passed w c) (t .long))
       go (step.End total) t i later = omega arith
       go (step.Refuse x) t i later = i
 
@@ -117,27 +122,27 @@ module _ (m : ℕ) where
   ParsedIn (refused x) = refusalPlace x ≤ m
 
   -- the count of each route is told at its place, that of the end at the end's
-  counted-in : (at : ℕ) (ts : List Told) (ending : ℕ → Parsed) → at + sizeOf ts ≤ m → ((end : ℕ) → end ≤ m → ParsedIn (ending end))
-      → ParsedIn (counted at ts ending)
+  counted-in : (g : Bool) (at : ℕ) (ts : List Told) (ending : ℕ → Parsed) → at + sizeOf g ts ≤ m → ((end : ℕ) → end ≤ m → ParsedIn (ending end))
+      → ParsedIn (counted g at ts ending)
   unfolding counted
-  counted-in at [] ending h last = last at (omega arith)
-  counted-in at (t ∷ ts) ending h last =
-      by-test ParsedIn (miscounted t) (λ _. omega arith) (λ _. counted-in (behind at (t .entry)) ts ending (omega arith) last)
+  counted-in g at [] ending h last = last at (omega arith)
+  counted-in g at (t ∷ ts) ending h last =
+      by-test ParsedIn (miscounted t) (λ _. omega arith) (λ _. counted-in g (behind g at (t .entry)) ts ending (omega arith) last)
 
   -- that of the head at 0
-  agreed-in : (h : Head) (ts : List Told) (total : ℕ) → 19 + sizeOf ts ≤ m → ParsedIn (agreed h ts total)
+  agreed-in : (h : Head) (ts : List Told) (total : ℕ) → 19 + sizeOf (h .grouped) ts ≤ m → ParsedIn (agreed h ts total)
   unfolding agreed
   agreed-in h ts total k =
       by-test ParsedIn (not (eqb (h .runs) (length ts))) (λ _. omega arith)
-      (λ _. counted-in 19 ts _ k
+      (λ _. counted-in (h .grouped) 19 ts _ k
       (λ end l. by-test ParsedIn (not (eqb total (totalCorners (entriesOf ts)))) (λ _. l) (λ _. tt)))
 
   -- by the first record, and those behind it
-  parse-by : (g : Record) (k : Rest) → ((h : Head) → g ≡ rec.Head h → RestIn 19 k) → ParsedIn (parseBy g k)
+  parse-by : (g : Record) (k : Rest) → ((h : Head) → g ≡ rec.Head h → RestIn (h .grouped) 19 k) → ParsedIn (parseBy g k)
   unfolding parseBy
   parse-by (rec.Head h) (rest cs ts total) f = let i = f h refl in agreed-in h ts total (omega arith)
   parse-by (rec.Head h) (stopped x) f = f h refl
-  parse-by (rec.Route number meets said) k f = omega arith
+  parse-by (rec.Route q number meets said centre) k f = omega arith
   parse-by (rec.Corner x y) k f = omega arith
   parse-by (rec.End total) k f = omega arith
   parse-by rec.Other k f = omega arith
@@ -150,13 +155,14 @@ unfolding parsePlan
 parse-in s =
     parse-by (length s) (recordOf s) (restOf s)
     (λ h e.
-    let l : 19 ≤ length s = rw e at (record-long s) in
-    rest-in (length s) (suc (length s)) 19 start (drop 19 s) (omega (arith, length-drop 19 s)))
+    let (l, same) = rw e at (record-long s) in
+    subst (λ g. RestIn (length s) g 19 (restOf s)) same
+    (rest-in (length s) (suc (length s)) 19 (start (isGrouped s)) (drop 19 s) (omega (arith, length-drop 19 s))))
 
 -- the same of a refusal
 refused-in : (s : List ℕ) (x : Refusal) → parsePlan s ≡ refused x → refusalPlace x ≤ length s
 refused-in s x e = rw e at (parse-in s)
 
--- so at most 36,823 bytes from the front, since these decide
-pub place-most : (s : List ℕ) (x : Refusal) → parsePlan s ≡ refused x → refusalPlace x ≤ 36823
-place-most s x e = omega (arith, refused-in (take 36823 s) x (parse-prefix 36823 s (omega arith) ∙ e), length-take 36823 s)
+-- so at most 36,887 bytes from the front, since these decide
+pub place-most : (s : List ℕ) (x : Refusal) → parsePlan s ≡ refused x → refusalPlace x ≤ 36887
+place-most s x e = omega (arith, refused-in (take 36887 s) x (parse-prefix 36887 s (omega arith) ∙ e), length-take 36887 s)

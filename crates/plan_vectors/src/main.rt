@@ -190,16 +190,19 @@ fn print_pits(routes: [Route; 32], count: usize) -> usize
     pits
 }
 
-// Prints the corners and the pits of routes, and their plan in a buffer of 36,822 bytes and in one of 40,960.
+// Prints the corners and the pits of routes, and their plan in a buffer of 36,886 bytes and in one of 40,960.
 fn show(
     head: Head,
     numbers: &[u32; 32],
     meets: &[u32; 32],
+    centres: &[u32; 32],
     routes: [Route; 32],
     count: usize,
     columns: &[u32; 64],
     rows: &[u32; 64],
-) {
+)
+    requires { ⌜ head .grouped ≡ true ⌝ }
+{
     if count > 32 {
         return;
     }
@@ -210,12 +213,13 @@ fn show(
     let pits = print_pits(routes, count);
     let mut figures = head;
     figures.pits = pits as u32;
-    let mut small = [0x5Au8; 36822];
+    let mut small = [0x5Au8; 36886];
     let n = plan::write_plan(
         &mut small,
         figures,
         numbers,
         meets,
+        centres,
         routes,
         count,
         columns,
@@ -228,6 +232,7 @@ fn show(
         figures,
         numbers,
         meets,
+        centres,
         routes,
         count,
         columns,
@@ -254,18 +259,20 @@ fn job_seven() {
     numbers[2] = 3;
     let mut meets = [1u32; 32];
     meets[0] = 2;
+    let centres = [1u32; 32];
     let mut routes = [route_of(b"crrcc", 0, 0, true, true); 32];
     routes[1] = route_of(b"rr", 0, 1, true, true);
     routes[2] = route_of(b"cc", 1, 2, true, true);
     let head = Head {
+        grouped: true,
         job: 7,
         runs: 3,
         trench: 100,
         saved: 40,
         pits: 0,
-        centre: 1,
+        last: 1,
     };
-    show(head, &numbers, &meets, routes, 3, &columns, &rows);
+    show(head, &numbers, &meets, &centres, routes, 3, &columns, &rows);
 }
 
 // One run whose points coincide, at the ends of the ranges.
@@ -276,14 +283,15 @@ fn one_point() {
     let meets = [0u32; 32];
     let routes = [route_of(b"", 0, 0, true, true); 32];
     let head = Head {
+        grouped: true,
         job: 4294967295,
         runs: 1,
         trench: 0,
         saved: 0,
         pits: 0,
-        centre: 9999,
+        last: 1,
     };
-    show(head, &numbers, &meets, routes, 1, &columns, &rows);
+    show(head, &numbers, &meets, &numbers, routes, 1, &columns, &rows);
 }
 
 // A job without runs: a head and an end.
@@ -294,17 +302,18 @@ fn no_runs() {
     let meets = [0u32; 32];
     let routes = [route_of(b"", 0, 0, true, true); 32];
     let head = Head {
+        grouped: true,
         job: 7,
         runs: 0,
         trench: 0,
         saved: 0,
         pits: 0,
-        centre: 0,
+        last: 0,
     };
-    show(head, &numbers, &meets, routes, 0, &columns, &rows);
+    show(head, &numbers, &meets, &numbers, routes, 0, &columns, &rows);
 }
 
-// Three runs to the left, downwards and both, with a turn at every vertex and with none.
+// Three runs to the left, downwards and both, with a turn at every vertex and with none, in two groups; the upper two bytes of figures are left out.
 fn all_ways() {
     let mut columns = [0u32; 64];
     columns[0] = 930000;
@@ -322,18 +331,21 @@ fn all_ways() {
     numbers[2] = 9998;
     let mut meets = [2u32; 32];
     meets[1] = 1;
+    let mut centres = [9998u32; 32];
+    centres[1] = 65836;
     let mut routes = [route_of(b"rcrcrcr", 4, 3, false, false); 32];
     routes[1] = route_of(b"cccrrrr", 0, 3, true, false);
     routes[2] = route_of(b"rrccrcr", 4, 0, false, true);
     let head = Head {
+        grouped: true,
         job: 65536,
         runs: 3,
         trench: 5140907,
         saved: 1069993,
         pits: 0,
-        centre: 10,
+        last: 65538,
     };
-    show(head, &numbers, &meets, routes, 3, &columns, &rows);
+    show(head, &numbers, &meets, &centres, routes, 3, &columns, &rows);
 }
 
 fn counting(from: u32) -> [u32; 32]
@@ -370,6 +382,7 @@ fn longest() {
     let rows = evenly(2);
     let numbers = counting(9968);
     let meets = [31u32; 32];
+    let centres = [9968u32; 32];
     let mut routes = [route_of(
         b"rcrcrcrcrcrcrcrcrcrcrcrcrcrcrcrcrcrcrcrcrcrcrcrcrcrcrcrcrcrcrcrcrcrcrcrcrcrcrcrcrcrcrcrcrcrcrcrcrcrcrcrcrcrcrcrcrcrcrcrcrcrcrc",
         0,
@@ -390,14 +403,24 @@ fn longest() {
         i += 2;
     }
     let head = Head {
+        grouped: true,
         job: 1,
         runs: 32,
         trench: 7999992,
         saved: 119999880,
         pits: 0,
-        centre: 9968,
+        last: 1,
     };
-    show(head, &numbers, &meets, routes, 32, &columns, &rows);
+    show(
+        head,
+        &numbers,
+        &meets,
+        &centres,
+        routes,
+        32,
+        &columns,
+        &rows,
+    );
 }
 
 // The pits of a route along row 2, of one down column 3, and of a third.

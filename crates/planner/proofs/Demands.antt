@@ -22,7 +22,7 @@ use Rattle.job.specs.Order.{order, before}
 use Rattle.job.specs.Parse.{Parsed, accepted, refused, parse}
 use Rattle.job.specs.Written.{Bytes, WellFormed}
 use Rattle.plan.specs.declared.Head.{Head}
-use Rattle.plan.specs.Plan.{Entry, bookBytes, entriesFrom, headOf, meetsOf, drawnBytes, planBytes}
+use Rattle.plan.specs.Plan.{Entry, bookBytes, entriesFrom, headOf, meetsOf, centreFigure, drawnBytes, planBytes}
 use Rattle.plan.proofs.Determined.{book-head, book-corners}
 use Rattle.plan.specs.Fits.{PointIn, HeadFits}
 use Rattle.plan.proofs.Whole.{entries-corners}
@@ -58,12 +58,12 @@ module _ (number : ℕ) (runs : List Read) (w : WellFormed number runs) (routes 
       let g = hanan (runsOf runs) in
       let own = ownRoutes routes in
       let number-of : ℕ → ℕ = λ i. getD (numbersOf runs) i 0 in
-      let h : head ≡ headOf number (numbersOf runs) (runsOf runs) own
-      = book-head head (headOf number (numbersOf runs) (runsOf runs) own) es (entriesFrom number-of (meetsOf (runsOf runs)) 0 own) fits
+      let h : head ≡ headOf number (runsOf runs) own
+      = book-head head (headOf number (runsOf runs) own) es (entriesFrom number-of (meetsOf (runsOf runs)) (centreFigure (numbersOf runs) (runsOf runs)) 0 own) fits
       (head-fits number runs w routes (l .are-routes)) e in
-      let o = entries-corners number-of (meetsOf (runsOf runs)) 0 own in
+      let o = entries-corners number-of (meetsOf (runsOf runs)) (centreFigure (numbersOf runs) (runsOf runs)) 0 own in
       let c : map (λ e. e .corners) es ≡ own
-      = book-corners head (headOf number (numbersOf runs) (runsOf runs) own) es (entriesFrom number-of (meetsOf (runsOf runs)) 0 own) in-range
+      = book-corners head (headOf number (runsOf runs) own) es (entriesFrom number-of (meetsOf (runsOf runs)) (centreFigure (numbersOf runs) (runsOf runs)) 0 own) in-range
       (rw o (corners-in runs (w .in-range) routes (l .are-routes))) e ∙ o in
       record {
         least = subst (Least g (runsOf runs)) (sym c) own-least;
@@ -86,7 +86,7 @@ plan-front number runs out s out′ p n a =
 
 module _ (job : List ℕ) (words : ℕ) (out : List ℕ) (s : Said) (out′ : List ℕ) (b : Bytes job)
     (call : Outcome (verdict job words (length out)) out s out′) where
-  -- DEMAND 2: a plan is answered exactly if enough is lent, and the job is well formed and a star
+  -- DEMAND 2: a plan is answered exactly if enough is lent, the job is well formed, and its groups are stars
   answered : ((n : ℕ) × (s ≡ gives n)) ↔ Admitted job words (length out)
   answered = (λ a. forth (verdict job words (length out)) refl call (a .0) (a .1), back)
     where
@@ -94,12 +94,12 @@ module _ (job : List ℕ) (words : ℕ) (out : List ℕ) (s : Said) (out′ : Li
       forth (accepted number runs) e o n a =
           let (h, k, d) = lent-enough job words (length out) number runs e in
           let (w, j, t) = job-star job b number runs d in
-          record { words-enough = h; bytes-enough = k; job-in = record { number = number; runs = runs; well-formed = w; written = j }; star = t }
+          record { words-enough = h; bytes-enough = k; job-in = record { number = number; runs = runs; well-formed = w; written = j }; stars = t }
       forth (refused x) e o n a = absurd (no-plan n (refusalNumber x) (refusalPlace x) (sym a ∙ o .says))
 
       back : Admitted job words (length out) → (n : ℕ) × (s ≡ gives n)
       back a =
-          let e = enough job words (length out) (a .words-enough) (a .bytes-enough) ∙ star-job job b (a .job-in) (a .star) in
+          let e = enough job words (length out) (a .words-enough) (a .bytes-enough) ∙ star-job job b (a .job-in) (a .stars) in
           let p = subst (λ (v : Parsed). Outcome v out s out′) e call in
           (length (planOf (a .job-in .number) (a .job-in .runs) (p .routes)), p .says)
 
@@ -207,8 +207,8 @@ never-minus-10 job out code out′ d e = let (x, a, n) = told-refusal job out co
 -- Two plans of one job have the same trench and the same saved figure; their meets figures are the job's.
 pub same-figures : (number : ℕ) (runs : List Read) (routes others : List Route) → Least (hanan (runsOf runs)) (runsOf runs) routes
     → Least (hanan (runsOf runs)) (runsOf runs) others
-    → (headOf number (numbersOf runs) (runsOf runs) (ownRoutes routes) .trench ≡ headOf number (numbersOf runs) (runsOf runs) (ownRoutes others) .trench)
-    × (headOf number (numbersOf runs) (runsOf runs) (ownRoutes routes) .saved ≡ headOf number (numbersOf runs) (runsOf runs) (ownRoutes others) .saved)
+    → (headOf number (runsOf runs) (ownRoutes routes) .trench ≡ headOf number (runsOf runs) (ownRoutes others) .trench)
+    × (headOf number (runsOf runs) (ownRoutes routes) .saved ≡ headOf number (runsOf runs) (ownRoutes others) .saved)
 same-figures number runs routes others l k =
     let g = hanan (runsOf runs) in
     let a = corners-least g (runsOf runs) routes l in

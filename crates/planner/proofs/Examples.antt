@@ -1,7 +1,7 @@
 -- The surveyed examples and a blank job hold of the definitions, and job 7 of the listing and every blank job have one least plan: by tests that are
 -- computed over all the ways to lay a job's routes.
 --
--- A job that passes the tests of the reader is well formed, so reading its bytes gives it back and the verdict is by its star. No way to lay its
+-- A job that passes the tests of the reader is well formed, so reading its bytes gives it back and the verdict is by its groups. No way to lay its
 -- routes is shorter than the trench figure, and those of that length pass what else is given (pits; for job 7 the corners themselves): so do all
 -- least plans. The other figures follow from the corners and the runs.
 use mathlib.Core.Path.{_≡_, refl, ap, ap₂, _∙_, subst}
@@ -19,6 +19,7 @@ use Rattle.network.specs.Distinct.{insert, distinct}
 use Rattle.network.specs.Hanan.{hanan}
 use Rattle.network.specs.Route.{Route, level, lies, unionLength}
 use Rattle.network.specs.Graph.{overlap, meets, degree, isCentre, centres}
+use Rattle.groups.specs.Groups.{reached, grown, spread, groupOf, lowest, heads, groupCount, inStar, allStars, centreOf}
 use Rattle.network.specs.Corners.{samePoint, straightOn, corners}
 use Rattle.network.proofs.Tests.{and-split}
 use Rattle.network.proofs.Corners.{point-true}
@@ -33,8 +34,8 @@ use Rattle.job.proofs.Rising.{Rising, none, more, rising-well-formed}
 use Rattle.job.proofs.Written.{written-read}
 use Rattle.plan.specs.declared.Head.{Head}
 use Rattle.plan.specs.Records.{headRecord, endRecord}
-use Rattle.plan.specs.Plan.{Entry, bookBytes, entriesFrom, headOf, meetsOf, drawnBytes, planBytes}
-use Rattle.planner.specs.Verdict.{centresOf, isStar, judged, verdict}
+use Rattle.plan.specs.Plan.{Entry, bookBytes, entriesFrom, headOf, meetsOf, centreFigure, drawnBytes, planBytes}
+use Rattle.planner.specs.Verdict.{areStars, judged, verdict}
 use Rattle.planner.specs.Call.{runsOf, numbersOf, Said, gives}
 use Rattle.planner.specs.Figures.{planHead, planEntries}
 use Rattle.planner.specs.Outcome.{Outcome}
@@ -88,8 +89,8 @@ well-true number runs f h =
     let (most, up) = and-split (leb (length runs) 32) _ h in
     rising-well-formed number runs f (leb-true (length runs) 32 most) (rises-true 0 runs up)
 
--- the verdict on a well-formed job is by its star
-verdict-by : (number : ℕ) (runs : List Read) → WellFormed number runs → (b : Bool) → isStar (runsOf runs) ≡ b
+-- the verdict on a well-formed job is by its groups
+verdict-by : (number : ℕ) (runs : List Read) → WellFormed number runs → (b : Bool) → areStars (runsOf runs) ≡ b
     → HasVerdict number runs (cond b (accepted number runs) (refused NoStar))
 unfolding judged
 verdict-by number runs w b e work out h k =
@@ -100,12 +101,12 @@ verdict-by number runs w b e work out h k =
 -- all least plans have this trench and pass the test, and the figures add up to the distances
 planTest : List Read → (trench saved : ℕ) → (List Route → Bool) → Bool
 planTest runs trench saved t =
-    isStar (runsOf runs)
+    areStars (runsOf runs)
     && (leastTest (hanan (runsOf runs)) (runsOf runs) trench t && eqb (trench + saved) (sum distance (runsOf runs)))
 
 -- the test of what a row says, and the whole test of a row
 testOf : List Read → Figures → Bool
-testOf runs refused-11 = not (isStar (runsOf runs))
+testOf runs refused-11 = not (areStars (runsOf runs))
 testOf runs (figures trench saved) = planTest runs trench saved (λ c. true)
 testOf runs (figures-pits trench saved pits) = planTest runs trench saved (λ c. eqb (pitsOf c) pits)
 
@@ -114,7 +115,7 @@ test e = wellTest (e .runs) && testOf (e .runs) (e .outcome)
 
 -- what the test of a plan says
 record Tested (runs : List Read) (trench saved : ℕ) (t : List Route → Bool) : Type 0 where
-  star : isStar (runsOf runs) ≡ true
+  stars : areStars (runsOf runs) ≡ true
   least : LeastAre (hanan (runsOf runs)) (runsOf runs) trench t
   total : trench + saved ≡ sum distance (runsOf runs)
 
@@ -122,10 +123,10 @@ record Tested (runs : List Read) (trench saved : ℕ) (t : List Route → Bool) 
 plan-true : (runs : List Read) (trench saved : ℕ) (t : List Route → Bool) → planTest runs trench saved t ≡ true → Tested runs trench saved t
 unfolding planTest
 plan-true runs trench saved t h =
-    let (a, k) = and-split (isStar (runsOf runs)) _ h in
+    let (a, k) = and-split (areStars (runsOf runs)) _ h in
     let (b, c) = and-split (leastTest (hanan (runsOf runs)) (runsOf runs) trench t) _ k in
     record {
-      star = a;
+      stars = a;
       least = least-tested (hanan (runsOf runs)) (runsOf runs) (hanan-all (runsOf runs)) trench t b;
       total = eqb-true (trench + saved) (sum distance (runsOf runs)) c;
     }
@@ -133,18 +134,18 @@ plan-true runs trench saved t h =
 -- a row that passes its test holds
 sound : (runs : List Read) (o : Figures) → wellTest runs ≡ true → testOf runs o ≡ true → HoldsOf runs o
 unfolding testOf
-sound runs refused-11 w h = λ number f. verdict-by number runs (well-true number runs f w) false (not-true (isStar (runsOf runs)) h)
+sound runs refused-11 w h = λ number f. verdict-by number runs (well-true number runs f w) false (not-true (areStars (runsOf runs)) h)
 sound runs (figures trench saved) w h =
     let p = plan-true runs trench saved (λ c. true) h in
     record {
-      accepts = λ number f. verdict-by number runs (well-true number runs f w) true (p .star);
+      accepts = λ number f. verdict-by number runs (well-true number runs f w) true (p .stars);
       some = p .least .some;
       says = λ number routes l. (p .least .union-is routes l, omega (arith, p .least .union-is routes l, p .total));
     }
 sound runs (figures-pits trench saved pits) w h =
     let p = plan-true runs trench saved (λ c. eqb (pitsOf c) pits) h in
     record {
-      accepts = λ number f. verdict-by number runs (well-true number runs f w) true (p .star);
+      accepts = λ number f. verdict-by number runs (well-true number runs f w) true (p .stars);
       some = p .least .some;
       says = λ number routes l. (
         p .least .union-is routes l,
@@ -167,7 +168,7 @@ all-sound (e ∷ l) h =
 -- every row of the table holds
 pub examples-hold : All Holds examples
 unfolding test testOf wellTest rises planTest leastTest choices inFront routesOf ways laneOf indexIn samePoint straightOn unionLength lies level len
-    centresOf centres isCentre meets overlap edges inside spans distinct insert gap distance pitsOf pitPoints crossings crossing passesRow passesColumn amid unique flatten flatMap
+    allStars inStar groupOf spread grown reached centres isCentre meets overlap edges inside spans distinct insert gap distance pitsOf pitPoints crossings crossing passesRow passesColumn amid unique flatten flatMap
 examples-hold = all-sound examples refl
 
 -- ---- job 7 of the listing
@@ -212,8 +213,8 @@ cornersIn es = map (λ e. e .corners) es
 -- If all least plans have the given corners, and the given head and entries are those of these corners, then the job has one plan.
 one-plan : (number : ℕ) (runs : List Read) (head : Head) (entries : List Entry) → number < 2 ^ 32 → wellTest runs ≡ true
     → planTest runs (head .trench) (head .saved) (λ c. sameRoutes c (cornersIn entries)) ≡ true
-    → headOf number (numbersOf runs) (runsOf runs) (cornersIn entries) ≡ head
-    → entriesFrom (λ i. getD (numbersOf runs) i 0) (meetsOf (runsOf runs)) 0 (cornersIn entries) ≡ entries
+    → headOf number (runsOf runs) (cornersIn entries) ≡ head
+    → entriesFrom (λ i. getD (numbersOf runs) i 0) (meetsOf (runsOf runs)) (centreFigure (numbersOf runs) (runsOf runs)) 0 (cornersIn entries) ≡ entries
     → HasOnePlan number runs head entries
 unfolding planBytes drawnBytes
 one-plan number runs head entries f w h d e =
@@ -221,11 +222,11 @@ one-plan number runs head entries f w h d e =
     let c : (routes : List Route) → LeastOf runs routes → map corners routes ≡ cornersIn entries
     = λ routes l. routes-true (map corners routes) (cornersIn entries) (p .least .passes routes l) in
     let a : (routes : List Route) → LeastOf runs routes → planHead number runs routes ≡ head
-    = λ routes l. ap (headOf number (numbersOf runs) (runsOf runs)) (c routes l) ∙ d in
+    = λ routes l. ap (headOf number (runsOf runs)) (c routes l) ∙ d in
     let b : (routes : List Route) → LeastOf runs routes → planEntries runs routes ≡ entries
-    = λ routes l. ap (entriesFrom (λ i. getD (numbersOf runs) i 0) (meetsOf (runsOf runs)) 0) (c routes l) ∙ e in
+    = λ routes l. ap (entriesFrom (λ i. getD (numbersOf runs) i 0) (meetsOf (runsOf runs)) (centreFigure (numbersOf runs) (runsOf runs)) 0) (c routes l) ∙ e in
     record {
-      accepts = verdict-by number runs (well-true number runs f w) true (p .star);
+      accepts = verdict-by number runs (well-true number runs f w) true (p .stars);
       some = p .least .some;
       corners-are = c;
       head-is = a;
@@ -236,12 +237,12 @@ one-plan number runs head entries f w h d e =
 -- job 7 has one least plan, and this is its head and what it says of its runs
 pub job-7 : HasOnePlan 7 job7Runs job7Head job7Entries
 unfolding wellTest rises planTest leastTest choices inFront routesOf ways laneOf indexIn samePoint straightOn unionLength lies level len sameRoutes samePoints
-    centresOf centres isCentre meets degree overlap edges inside spans distinct insert gap distance pitsOf pitPoints crossings crossing passesRow passesColumn amid unique flatten flatMap
+    allStars inStar groupCount heads lowest centreOf groupOf spread grown reached centres isCentre meets degree overlap edges inside spans distinct insert gap distance pitsOf pitPoints crossings crossing passesRow passesColumn amid unique flatten flatMap
 job-7 = one-plan 7 job7Runs job7Head job7Entries (omega arith) refl refl refl refl
 
 -- so has every job without runs: a head whose figures are 0, and no entry
 pub blank-plan : (number : ℕ) → number < 2 ^ 32 → HasOnePlan number [] (blankHead number) []
-unfolding wellTest rises planTest leastTest choices unionLength sameRoutes edges distinct pitsOf pitPoints crossings crossing passesRow passesColumn amid unique flatten flatMap centres
+unfolding wellTest rises planTest leastTest choices unionLength sameRoutes edges distinct pitsOf pitPoints crossings crossing passesRow passesColumn amid unique flatten flatMap allStars groupCount heads
 blank-plan number f = one-plan number [] (blankHead number) [] f refl refl refl refl
 
 -- a call with words and bytes enough for a job with one plan gives that plan's length and leaves its bytes

@@ -21,7 +21,7 @@ use Rattle.job.proofs.Located.{one-stage, in-order}
 use Rattle.job.proofs.First.{first-applies, none-applies}
 use Rattle.planner.specs.Call.{runsOf}
 use Rattle.planner.specs.Verdict.{judged, verdict}
-use Rattle.planner.specs.Demands.{JobIn, IsStar, Applies, short-work, short-plan, in-bytes, no-star}
+use Rattle.planner.specs.Demands.{JobIn, AreStars, Applies, short-work, short-plan, in-bytes, no-star}
 use Rattle.planner.proofs.Stars.{judged-accepts, judged-refuses, job-star, job-read, same-job}
 use Rattle.planner.proofs.Verdicts.{lent-enough}
 
@@ -46,7 +46,7 @@ not-both x number runs e = let z : _≡_ {A = ℕ} 0 1 = cc in omega arith
 module _ (job : List ℕ) (words bytes : ℕ) (b : Bytes job) where
   -- where enough is lent, what applies applies to the bytes, or is 11
   later : 16384 ≤ words → 40960 ≤ bytes → (y : Refusal) → Applies job words bytes y
-      → AppliesIn job y ⊎ ((j : JobIn job) × (IsStar (runsOf (j .runs)) → ⊥) × (y ≡ NoStar))
+      → AppliesIn job y ⊎ ((j : JobIn job) × (AreStars (runsOf (j .runs)) → ⊥) × (y ≡ NoStar))
   later h k ShortWork (short-work w) = absurd (omega arith)
   later h k ShortBuffer (short-plan o) = absurd (omega arith)
   later h k y (in-bytes a) = inl a
@@ -72,12 +72,12 @@ module _ (job : List ℕ) (words bytes : ℕ) (b : Bytes job) where
       let f = first-applies job x .0 e in
       record { applies = in-bytes (f .applies); first = λ y a s. not-first y s (later h k y a) }
     where
-      not-first : (y : Refusal) → Sooner y x → AppliesIn job y ⊎ ((j : JobIn job) × (IsStar (runsOf (j .runs)) → ⊥) × (y ≡ NoStar)) → ⊥
+      not-first : (y : Refusal) → Sooner y x → AppliesIn job y ⊎ ((j : JobIn job) × (AreStars (runsOf (j .runs)) → ⊥) × (y ≡ NoStar)) → ⊥
       not-first y s (inl a) = first-applies job x .0 e .first y a s
       not-first y s (inr (j, n, z)) = not-both x (j .number) (j .runs) (sym e ∙ job-read job b j)
 
   -- 11
-  first-11 : 16384 ≤ words → 40960 ≤ bytes → (number : ℕ) (runs : List Read) → parse job ≡ accepted number runs → (IsStar (runsOf runs) → ⊥)
+  first-11 : 16384 ≤ words → 40960 ≤ bytes → (number : ℕ) (runs : List Read) → parse job ≡ accepted number runs → (AreStars (runsOf runs) → ⊥)
       → FirstOf (Applies job words bytes) NoStar
   first-11 h k number runs e n =
       let (w, j) = accepted-iff job number runs b .0 e in
@@ -86,7 +86,7 @@ module _ (job : List ℕ) (words bytes : ℕ) (b : Bytes job) where
         first = λ y a s. not-first y s (later h k y a);
       }
     where
-      not-first : (y : Refusal) → Sooner y NoStar → AppliesIn job y ⊎ ((j : JobIn job) × (IsStar (runsOf (j .runs)) → ⊥) × (y ≡ NoStar)) → ⊥
+      not-first : (y : Refusal) → Sooner y NoStar → AppliesIn job y ⊎ ((j : JobIn job) × (AreStars (runsOf (j .runs)) → ⊥) × (y ≡ NoStar)) → ⊥
       not-first y s (inl a) = none-applies job .0 (number, runs, e) y a
       not-first y s (inr (j, n, z)) = sooner-self NoStar (subst (λ x. Sooner x NoStar) z s)
 
@@ -101,7 +101,7 @@ module _ (job : List ℕ) (words bytes : ℕ) (b : Bytes job) where
       judge : 16384 ≤ words → 40960 ≤ bytes → judged (parse job) ≡ refused x → FirstOf (Applies job words bytes) x
       judge h k q = by (judged-refuses (parse job) x q)
         where
-          by : (parse job ≡ refused x) ⊎ ((number : ℕ) × (runs : List Read) × (parse job ≡ accepted number runs) × (IsStar (runsOf runs) → ⊥) × (x ≡ NoStar))
+          by : (parse job ≡ refused x) ⊎ ((number : ℕ) × (runs : List Read) × (parse job ≡ accepted number runs) × (AreStars (runsOf runs) → ⊥) × (x ≡ NoStar))
               → FirstOf (Applies job words bytes) x
           by (inl r) = first-in h k x r
           by (inr (number, runs, r, n, z)) = subst (FirstOf (Applies job words bytes)) (sym z) (first-11 h k number runs r n)
@@ -118,10 +118,10 @@ module _ (job : List ℕ) (words bytes : ℕ) (b : Bytes job) where
       let (h, k, d) = lent-enough job words bytes number runs e in
       none (judged-accepts (parse job) number runs d .0) (job-star job b number runs d .2) (later h k x a)
     where
-      none : parse job ≡ accepted number runs → IsStar (runsOf runs)
-          → AppliesIn job x ⊎ ((j : JobIn job) × (IsStar (runsOf (j .runs)) → ⊥) × (x ≡ NoStar)) → ⊥
+      none : parse job ≡ accepted number runs → AreStars (runsOf runs)
+          → AppliesIn job x ⊎ ((j : JobIn job) × (AreStars (runsOf (j .runs)) → ⊥) × (x ≡ NoStar)) → ⊥
       none p s (inl i) = none-applies job .0 (number, runs, p) x i
-      none p s (inr (j, n, z)) = n (subst (λ rs. IsStar (runsOf rs)) (same-job job b j number runs p .1) s)
+      none p s (inr (j, n, z)) = n (subst (λ rs. AreStars (runsOf rs)) (same-job job b j number runs p .1) s)
 
   -- what applies stands in the order
   ordered : (x : Refusal) → Applies job words bytes x → InOrder x

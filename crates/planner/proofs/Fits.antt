@@ -8,13 +8,14 @@ use Rattle.network.specs.Lists.{sum, All}
 use Rattle.network.specs.Plane.{Point, gap, distance}
 use Rattle.network.specs.Hanan.{xs, ys, hanan}
 use Rattle.network.specs.Route.{Route, Vertex, Routes}
-use Rattle.network.specs.Graph.{meets, below, degree, centres}
+use Rattle.network.specs.Graph.{meets, degree}
+use Rattle.groups.proofs.Groups.{groups-most}
 use Rattle.network.specs.Corners.{corners}
 use Rattle.network.proofs.Counting.{counting}
 use Rattle.network.proofs.Corners.{corners-routes}
 use Rattle.network.proofs.Hanan.{distinct-listed}
 use Rattle.grid.proofs.Insert.{length-distinct}
-use Rattle.grid.proofs.Places.{count-le}
+use Rattle.network.proofs.Sums.{count-le}
 use Rattle.network.specs.Pits.{pitsOf}
 use Rattle.network.proofs.Pits.{routes-vertices, pits-few}
 use Rattle.job.specs.declared.Run.{Run as Read}
@@ -106,7 +107,7 @@ pits-bounded l h routes m =
 
 -- the figures of a plan fit their fields
 pub head-fits : (number : ℕ) (l : List Read) → WellFormed number l → (routes : List Route) → Routes (hanan (runsOf l)) (runsOf l) routes
-    → HeadFits (headOf number (numbersOf l) (runsOf l) (map corners routes))
+    → HeadFits (headOf number (runsOf l) (map corners routes))
 head-fits number l w routes m =
     let g = hanan (runsOf l) in
     let d = distances-bounded l (w .in-range) in
@@ -117,5 +118,5 @@ head-fits number l w routes m =
       trench-fits = omega (arith, w .most);
       saved-fits = omega (arith, w .most);
       pits-fits = omega (arith, pits-bounded l (w .most) routes m);
-      centre-fits = omega (arith, number-bounded l (w .in-range) (getD (centres (meets g (runsOf l)) (below (length (runsOf l)))) 0 0));
+      last-fits = omega (arith, groups-most (meets g (runsOf l)) (length (runsOf l)), w .most, length-map l runOf);
     }

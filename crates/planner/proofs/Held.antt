@@ -35,15 +35,6 @@ module _ (j : Job) where
   unfolding runsIn
   held-at k h = getD-table (runIn j) (j .count) k noRun h
 
-  -- a job that counts none has none
-  pub none-held : j .count ≡ 0 → runsIn j ≡ []
-  unfolding runsIn
-  none-held e = ap (table (runIn j)) e
-
-  -- and one that counts some has some
-  pub some-held : (j .count ≡ 0 → ⊥) → 0 < length (runsIn j)
-  some-held n = omega (arith, n, length-held)
-
 -- the runs of the job with some runs are these
 pub runs-held : (number : ℕ) (runs : List Read) → runsIn (jobOf number runs) ≡ runs
 runs-held number runs =

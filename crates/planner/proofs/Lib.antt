@@ -9,8 +9,6 @@ pub mod Held
 pub mod Verdicts
 pub mod Distances
 pub mod Judged
-pub mod Blank
-pub mod Laying
 pub mod Writing
 pub mod Stages
 pub mod MapScreen

@@ -27,17 +27,17 @@ use Rattle.planner.proofs.Stars.{accepted-few}
 use Rattle.planner.proofs.Minus.{minus-fits}
 
 -- no plan exceeds 36,822 bytes
-pub plan-short : (job out out′ : List ℕ) (n : ℕ) → Bytes job → Outcome (judged (parse job)) out (gives n) out′ → n ≤ 36822
+pub plan-short : (job out out′ : List ℕ) (n : ℕ) → Bytes job → Outcome (judged (parse job)) out (gives n) out′ → n ≤ 36886
 plan-short job out out′ n b p = go (judged (parse job)) refl p
   where
     same-length : (a c : ℕ) → gives a ≡ gives c → a ≡ c
     same-length a c z = cc
 
-    go : (v : Parsed) → judged (parse job) ≡ v → Outcome v out (gives n) out′ → n ≤ 36822
+    go : (v : Parsed) → judged (parse job) ≡ v → Outcome v out (gives n) out′ → n ≤ 36886
     go (accepted number runs) e q =
         let l = few-lines runs (accepted-few job number runs b e) in
         let m = plan-most number (numbersOf runs) (runsOf runs) (q .routes) (omega (arith, length-map runs runOf, accepted-few job number runs b e)) (l .0) (l .1) (q .least .are-routes) in
-        subst (λ k. k ≤ 36822) (sym (same-length n (length (planOf number runs (q .routes))) (q .says))) m
+        subst (λ k. k ≤ 36886) (sym (same-length n (length (planOf number runs (q .routes))) (q .says))) m
     go (refused x) e q = absurd (no-plan n (refusalNumber x) (refusalPlace x) (q .says))
 
 -- ---- what the map screen is told
@@ -61,10 +61,10 @@ told-short job out code h f = refusal-told _ out out ShortBuffer code f (short-p
 
 module _ (job out out′ : List ℕ) (r : Answer) (long : 40960 ≤ length out) (o : Outcome (judged (parse job)) out (said r) out′) where
   -- the length of a plan is small
-  pub told-few : Bytes job → (n : ℕ) → r ≡ Planned n → n ≤ 36822
+  pub told-few : Bytes job → (n : ℕ) → r ≡ Planned n → n ≤ 36886
   told-few b n e = plan-short job out out′ n b (subst (λ a. Outcome (judged (parse job)) out (said a) out′) e o)
 
-  pub told-planned : (n : ℕ) (code : ℤ) → r ≡ Planned n → code ≡ pos n → n ≤ 36822 → MapOutcome (verdict job 16384 (length out)) out (toZ w32 (ofZ w32 code)) out′
+  pub told-planned : (n : ℕ) (code : ℤ) → r ≡ Planned n → code ≡ pos n → n ≤ 36886 → MapOutcome (verdict job 16384 (length out)) out (toZ w32 (ofZ w32 code)) out′
   told-planned n code e f few =
       told _ out out′ (gives n) code (ap (λ z. toZ w32 (ofZ w32 z)) f ∙ toZ-pos w32 n (omega arith) ∙ sym f) f
       (decided job out out′ 16384 r (Planned n) (omega arith) long o e)

@@ -1,21 +1,19 @@
--- The plan of a star: what its stages promise, put together.
-use mathlib.Core.Path.{_≡_, refl, sym, ap, _∙_, subst}
+-- The plan of a lease: what its stages promise, put together.
+use mathlib.Core.Path.{_≡_, sym, ap, _∙_, subst}
 use mathlib.Core.Bool.{true}
-use mathlib.Core.List.{List, [], _∷_, _++_}
+use mathlib.Core.List.{List, _++_}
 use Prim.Native.Nat.{ℕ, _+_, _*_, _≤_, _<_}
-use native.Mathlib.Nat.{mul-le-mul, mul-le-mul-right}
 use native.Mathlib.Omega.{arith}
 use lib.ListN.{length, getD, drop, replicate, length-drop, length-replicate}
 use lib.Seq.{ext-getD, getD-drop}
-use Rattle.network.specs.Plane.{Run}
 use Rattle.network.specs.Hanan.{hanan}
-use Rattle.network.specs.Graph.{meets, below, isCentre}
+use Rattle.network.specs.Graph.{meets}
 use Rattle.network.specs.Steps.{hor, ver}
+use Rattle.groups.specs.Groups.{allStars, centreOf}
 use Rattle.grid.proofs.Hanan.{axis-columns, axis-rows}
 use Rattle.intersection.specs.Sets.{has}
-use Rattle.intersection.specs.Star.{meetsIn, starOf}
-use Rattle.intersection.specs.declared.Star.the-variants.{Centre}
-use Rattle.intersection.proofs.Stars.{set-joined}
+use Rattle.intersection.specs.Centres.{meetsIn}
+use Rattle.intersection.proofs.Held.{set-joined}
 use Rattle.job.specs.declared.Job.{Job}
 use Rattle.refusal.specs.declared.Refusal.{Refusal}
 use Rattle.job.specs.Parse.{parse}
@@ -23,54 +21,47 @@ use Rattle.table.specs.Rule.{Beyond}
 use Rattle.table.specs.OnSides.{OnSides}
 use Rattle.table.proofs.Survey.{on-sides, short}
 use Rattle.fields.specs.Bytes.{over, Wrote}
+use Rattle.laying.specs.declared.Layout.{Layout}
+use Rattle.laying.specs.Lease.{tableWords, LeaseSurveyed, drawnBy, LaidOut}
+use Rattle.laying.proofs.Laying.{words-more}
 use Rattle.planner.specs.declared.Answer.{Answer}
 use Rattle.planner.specs.declared.Answer.the-variants.{Planned, Refused}
-use Rattle.planner.specs.declared.star.Survey.{Survey}
-use Rattle.planner.specs.declared.star.Layout.{Layout}
-use Rattle.planner.specs.Verdict.{centresOf, judged, verdict}
+use Rattle.planner.specs.declared.survey.Survey.{Survey}
+use Rattle.planner.specs.Verdict.{judged, verdict}
 use Rattle.planner.specs.Call.{runsOf, planOf, gives, said, Plans, Words}
 use Rattle.planner.specs.Outcome.{Outcome}
 use Rattle.planner.specs.Held.{runsIn}
-use Rattle.planner.specs.Stages.{tableWords, Enough, Starred, Surveys, StarSurveyed, LaidOut, Lined, drawnBy, Left}
+use Rattle.planner.specs.Stages.{Enough, Leased, Surveys, Lined, Left}
 use Rattle.planner.proofs.Held.{length-held, plane-held, length-plane, held-few, held-range}
-use Rattle.planner.proofs.Stars.{first-centre}
+use Rattle.planner.proofs.Judged.{centre-judged}
 use Rattle.planner.proofs.Fits.{lines-most}
-use Rattle.planner.proofs.Writing.{centre-listed}
 use Rattle.planner.proofs.Verdicts.{enough}
 
--- the star's centre is a centre
-is-centre : (runs : List Run) (c : ℕ) → starOf (centresOf runs) ≡ Centre c → isCentre (meets (hanan runs) runs) (below (length runs)) c ≡ true
-is-centre runs c e = go (centresOf runs) refl e
-  where
-    go : (l : List ℕ) → centresOf runs ≡ l → starOf l ≡ Centre c → isCentre (meets (hanan runs) runs) (below (length runs)) c ≡ true
-    go [] q s = absurd (let z : _≡_ {A = ℕ} 0 1 = cc in omega arith)
-    go (d ∷ rest) q s = let z : d ≡ c = cc in subst (λ i. isCentre (meets (hanan runs) runs) (below (length runs)) i ≡ true) z (first-centre runs d rest q .1)
-
-module _ (j : Job) (sets : List ℕ) (c : ℕ) (S : Starred j sets c) (x y : Survey) (X : Surveys (j .x1) (j .x2) (j .count) x) (Y : Surveys (j .y1) (j .y2) (j .count) y) where
+module _ (j : Job) (sets centres : List ℕ) (S : Leased j sets centres) (x y : Survey) (X : Surveys (j .x1) (j .x2) (j .count) x) (Y : Surveys (j .y1) (j .y2) (j .count) y) where
   few : j .count ≤ 32
   few = held-few j (S .held)
 
-  -- the leaves are the runs that the centre meets
-  leaf-is : (k : ℕ) → k < j .count → has (getD sets c 0) k ≡ meets (hanan (runsOf (runsIn j))) (runsOf (runsIn j)) c k
-  leaf-is k h =
-      ap (λ l. has (getD l c 0) k) (S .sets)
-      ∙ set-joined (meetsIn (runsOf (runsIn j))) (j .count) few c k (centre-listed j c (S .star)) h
+  -- the leaves of a run are the runs that it meets
+  leaf-is : (c : ℕ) → c < j .count → (k : ℕ) → k < j .count → has (getD sets c 0) k ≡ meets (hanan (runsOf (runsIn j))) (runsOf (runsIn j)) c k
+  leaf-is c l k h = ap (λ s. has (getD s c 0) k) (S .sets) ∙ set-joined (meetsIn (runsOf (runsIn j))) (j .count) few c k l h
 
-  pub star-surveyed : StarSurveyed (runsOf (runsIn j)) (x .side) (y .side) (j .count) c (getD sets c 0)
-  star-surveyed =
+  pub lease-surveyed : LeaseSurveyed (runsOf (runsIn j)) (x .side) (y .side) (j .count) centres sets
+  lease-surveyed =
       let e = plane-held j in
       let r = held-range j (S .held) in
       record {
         count = length-plane j;
-        surveyed = subst (λ rs. OnSides (hanan rs) rs (x .side) (y .side) c (getD sets c 0)) (sym e)
+        few = few;
+        surveyed = λ c l. subst (λ rs. OnSides (hanan rs) rs (x .side) (y .side) c (getD sets c 0)) (sym e)
             (on-sides (j .x1) (j .y1) (j .x2) (j .y2) (j .count) few (x .axis) (y .axis) (X .axis-is) (Y .axis-is) (x .side) (y .side) (X .side-is) (Y .side-is)
-            c (getD sets c 0) (λ k h. leaf-is k h ∙ ap (λ rs. meets (hanan rs) rs c k) e));
+            c (getD sets c 0) (λ k h. leaf-is c l k h ∙ ap (λ rs. meets (hanan rs) rs c k) e));
         few-lines = let f = subst (λ n. (length (hanan (runsOf (runsIn j)) .columns) ≤ n + n) × (length (hanan (runsOf (runsIn j)) .rows) ≤ n + n)) (length-held j) (lines-most (runsIn j)) in
             elim [ hor ↦ f .0 | ver ↦ f .1 ];
         short = short (j .x1) (j .y1) (j .x2) (j .y2) (j .count) few (x .axis) (y .axis) (X .axis-is) (Y .axis-is) (x .side) (y .side) (X .side-is) (Y .side-is)
             2000000 (λ i h. (r .x1-in i h, r .x2-in i h)) (λ i h. (r .y1-in i h, r .y2-in i h));
-        listed = centre-listed j c (S .star);
-        star = is-centre (runsOf (runsIn j)) c (S .star);
+        stars = subst (λ n. allStars (meetsIn (runsOf (runsIn j))) n ≡ true) (sym (length-plane j)) (S .stars);
+        centres-are = λ i h. centre-judged (runsOf (runsIn j)) (j .count) few (length-plane j) (S .stars) centres (S .centres-are) i h
+            ∙ ap (λ n. centreOf (meetsIn (runsOf (runsIn j))) n i) (sym (length-plane j));
       }
 
   pub axes-lined : Lined (runsOf (runsIn j)) (x .axis) (y .axis)
@@ -95,14 +86,6 @@ drawn j laid L out out′ n w =
     record { routes = drawnBy (runsOf (runsIn j)) laid; least = L .best .least; says = ap gives (w .size); plan = w .bytes }
 
 -- ---- the work words
-
--- more runs need more words
-words-more : (n m : ℕ) → n ≤ m → tableWords n ≤ tableWords m
-words-more n m h = let k : n + n ≤ m + m = omega arith in mul-le-mul-right 4 (mul-le-mul k k)
-
--- the words of a table for at most 32 runs
-pub words-most : (n : ℕ) → n ≤ 32 → tableWords n ≤ 16384
-words-most n h = words-more n 32 h
 
 -- words for m runs are enough for a job that can have no more runs by its length
 pub words-suffice : (m : ℕ) (job out : List ℕ) → ((n : ℕ) → n ≤ 32 → length job ≡ 8 + 19 * n → n ≤ m) → 40960 ≤ length out

@@ -1,6 +1,7 @@
 -- The plan of a well-formed job, whatever Manhattan routes it has, is a right book (`plan-right`): its figures fit their fields, its counts are right, and its
 -- corners are in range and turn. So a plan that the planner wrote is read back as it was written (`plan-read`, `call-read`).
 use mathlib.Core.Path.{_≡_, refl, ap, _∙_, subst}
+use mathlib.Core.Bool.{true}
 use mathlib.Core.List.{List, [], _∷_, map}
 use Prim.Native.Nat.{ℕ, suc, _≤_, _<_}
 use native.Mathlib.Omega.{arith}
@@ -10,11 +11,13 @@ use Rattle.network.specs.Plane.{Run}
 use Rattle.network.specs.Grid.{Grid}
 use Rattle.network.specs.Hanan.{hanan}
 use Rattle.network.specs.Route.{Route, Manhattan, Routes}
+use Rattle.network.specs.Graph.{meets}
 use Rattle.network.specs.Corners.{corners}
+use Rattle.groups.specs.Groups.{centreOf}
 use Rattle.network.proofs.Counting.{routes-length}
 use Rattle.job.specs.declared.Run.{Run as Read}
 use Rattle.job.specs.Written.{Bytes, WellFormed}
-use Rattle.plan.specs.Plan.{entriesFrom, meetsOf, drawnBytes, planBytes}
+use Rattle.plan.specs.Plan.{entriesFrom, meetsOf, centreFigure, drawnBytes, planBytes}
 use Rattle.plan.specs.Fits.{PointIn}
 use Rattle.plan.proofs.Length.{entries-length}
 use Rattle.plan.proofs.Whole.{routes-few}
@@ -38,20 +41,22 @@ corners-some g run (p ∷ []) m = omega arith
 corners-some g run (p ∷ q ∷ l) m = omega arith
 
 -- the entries of Manhattan routes are right, where their figures fit, and their corners are in range and few
-entries-right : (number meets : ℕ → ℕ) → ((i : ℕ) → number i < 65536) → ((i : ℕ) → meets i < 65536) → (g : Grid) (runs : List Run) (routes : List Route)
+entries-right : (number meets centre : ℕ → ℕ) → ((i : ℕ) → number i < 65536) → ((i : ℕ) → meets i < 65536) → ((i : ℕ) → centre i < 65536)
+    → (g : Grid) (runs : List Run) (routes : List Route)
     → Routes g runs routes → All (All PointIn) (map corners routes) → All (λ c. length c ≤ 127) (map corners routes) → (i : ℕ)
-    → All RightEntry (entriesFrom number meets i (map corners routes))
-entries-right number meets h k g [] [] m inside few i = tt
-entries-right number meets h k g (run ∷ runs) (route ∷ routes) m inside few i = (
+    → All (RightEntry true) (entriesFrom number meets centre i (map corners routes))
+entries-right number meets centre h k l g [] [] m inside few i = tt
+entries-right number meets centre h k l g (run ∷ runs) (route ∷ routes) m inside few i = (
   record {
     number-fits = h i;
     meets-fits = k i;
+    centre-fits = l i;
     some = corners-some g run route (m .0);
     few = few .0;
     in-range = inside .0;
     turning = corners-turning g run route (m .0);
   },
-  entries-right number meets h k g runs routes (m .1) (inside .1) (few .1) (suc i),
+  entries-right number meets centre h k l g runs routes (m .1) (inside .1) (few .1) (suc i),
 )
 
 -- Every plan of a well-formed job is a right book.
@@ -60,14 +65,15 @@ pub plan-right : (number : ℕ) (runs : List Read) → WellFormed number runs �
 plan-right number runs w routes m =
     let g = hanan (runsOf runs) in
     let l = few-lines runs (w .most) in
-    let n = entries-length (λ i. getD (numbersOf runs) i 0) (meetsOf (runsOf runs)) 0 (map corners routes) in
+    let n = entries-length (λ i. getD (numbersOf runs) i 0) (meetsOf (runsOf runs)) (centreFigure (numbersOf runs) (runsOf runs)) 0 (map corners routes) in
     record {
       head-fits = head-fits number runs w routes m;
       runs = omega (arith, n, length-map routes corners, routes-length g (runsOf runs) routes m);
       few = omega (arith, n, length-map routes corners, routes-length g (runsOf runs) routes m, length-map runs runOf, w .most);
       entries =
-          entries-right (λ i. getD (numbersOf runs) i 0) (meetsOf (runsOf runs)) (λ i. omega (arith, number-bounded runs (w .in-range) i))
-          (λ i. omega (arith, meets-most runs i, w .most)) g (runsOf runs) routes m (corners-in runs (w .in-range) routes m)
+          entries-right (λ i. getD (numbersOf runs) i 0) (meetsOf (runsOf runs)) (centreFigure (numbersOf runs) (runsOf runs))
+          (λ i. omega (arith, number-bounded runs (w .in-range) i)) (λ i. omega (arith, meets-most runs i, w .most))
+          (λ i. omega (arith, number-bounded runs (w .in-range) (centreOf (meets g (runsOf runs)) (length (runsOf runs)) i))) g (runsOf runs) routes m (corners-in runs (w .in-range) routes m)
           (routes-few g (l .0) (l .1) (runsOf runs) routes m) 0;
     }
 

@@ -1,7 +1,7 @@
 -- The outcomes of a call, stage by stage: the verdict falls where the code answers.
 use mathlib.Core.Path.{_≡_, refl}
 use mathlib.Core.Bool.{Bool, true, false, cond}
-use mathlib.Core.List.{List, [], _∷_}
+use mathlib.Core.List.{List}
 use lib.Dec.{ltb}
 use Prim.Native.Nat.{ℕ, _≤_, _<_}
 use native.Mathlib.Omega.{arith}
@@ -12,10 +12,8 @@ use Rattle.refusal.specs.declared.Refusal.{Refusal}
 use Rattle.refusal.specs.declared.Refusal.the-variants.{ShortWork, ShortBuffer, NoStar}
 use Rattle.job.specs.Parse.{Parsed, accepted, refused, parse}
 use Rattle.job.specs.Reading.{placeSaid}
-use Rattle.intersection.specs.declared.Star.the-variants as star
-use Rattle.intersection.specs.Star.{starOf}
 use Rattle.planner.specs.declared.Answer.the-variants.{Refused}
-use Rattle.planner.specs.Verdict.{centresOf, some, isStar, judged, verdict}
+use Rattle.planner.specs.Verdict.{areStars, judged, verdict}
 use Rattle.planner.specs.Call.{runsOf, Said, gives, refuses, said, Plans}
 use Rattle.planner.specs.Outcome.{Outcome}
 
@@ -42,7 +40,7 @@ enough job w o h k = rw (le-ltb w 16384 h, le-ltb o 40960 k)
 pub judged-place : (p : Parsed) → placeSaid (judged p) ≡ placeSaid p
 unfolding judged
 judged-place (refused x) = refl
-judged-place (accepted number runs) = go (isStar (runsOf runs))
+judged-place (accepted number runs) = go (areStars (runsOf runs))
   where
     go : (b : Bool) → placeSaid (cond b (accepted number runs) (refused NoStar)) ≡ 0
     go true = refl
@@ -58,27 +56,15 @@ pub read-accepted : (job out : List ℕ) (number : ℕ) (runs : List Read) (s : 
     → Outcome (judged (accepted number runs)) out s out′ → Outcome (judged (parse job)) out s out′
 read-accepted job out number runs s out′ e d = rw e d
 
--- then the star
-module _ (number : ℕ) (out : List ℕ) where
-  pub no-star : (runs : List Read) → 0 < length runs → starOf (centresOf (runsOf runs)) ≡ star.NoStar
-      → Outcome (judged (accepted number runs)) out (said (Refused NoStar)) out
+-- then the groups
+module _ (number : ℕ) (out : List ℕ) (runs : List Read) where
+  pub no-star : areStars (runsOf runs) ≡ false → Outcome (judged (accepted number runs)) out (said (Refused NoStar)) out
   unfolding judged
-  no-star [] h e = absurd (omega arith)
-  no-star (r ∷ runs) h e = go (centresOf (runsOf (r ∷ runs))) e
-    where
-      go : (l : List ℕ) → starOf l ≡ star.NoStar → Outcome (cond (some l) (accepted number (r ∷ runs)) (refused NoStar)) out (said (Refused NoStar)) out
-      go [] q = record { says = refl; plan-kept = refl }
-      go (c ∷ rest) q = absurd (let z : _≡_ {A = ℕ} 0 1 = cc in omega arith)
+  no-star e = rw e (record { says = refl; plan-kept = refl })
 
-  pub star-planned : (runs : List Read) (c : ℕ) (s : Said) (out′ : List ℕ) → starOf (centresOf (runsOf runs)) ≡ star.Centre c → Plans number runs out s out′
-      → Outcome (judged (accepted number runs)) out s out′
+  pub stars-planned : (s : Said) (out′ : List ℕ) → areStars (runsOf runs) ≡ true → Plans number runs out s out′ → Outcome (judged (accepted number runs)) out s out′
   unfolding judged
-  star-planned [] c s out′ e p = p
-  star-planned (r ∷ runs) c s out′ e p = go (centresOf (runsOf (r ∷ runs))) e
-    where
-      go : (l : List ℕ) → starOf l ≡ star.Centre c → Outcome (cond (some l) (accepted number (r ∷ runs)) (refused NoStar)) out s out′
-      go [] q = absurd (let z : _≡_ {A = ℕ} 0 1 = cc in omega arith)
-      go (d ∷ rest) q = p
+  stars-planned s out′ e p = rw e p
 
 -- what is accepted was lent enough
 pub lent-enough : (job : List ℕ) (words bytes number : ℕ) (runs : List Read) → verdict job words bytes ≡ accepted number runs

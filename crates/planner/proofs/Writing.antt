@@ -1,5 +1,6 @@
 -- The plan that is written is that of the routes that were laid: its figures are measured on them.
-use mathlib.Core.Path.{_≡_, refl, sym, ap, _∙_, subst}
+use mathlib.Core.Path.{_≡_, refl, sym, ap, ap₂, _∙_, subst}
+use mathlib.Core.Bool.{true}
 use mathlib.Core.List.{List, [], _∷_, map, map-map}
 use Prim.Native.Nat.{ℕ, _-_, _≤_, _<_, _%_}
 use native.Mathlib.Omega.{arith}
@@ -10,29 +11,31 @@ use Rattle.network.specs.Grid.{Grid}
 use Rattle.network.specs.Hanan.{hanan}
 use Rattle.network.specs.Route.{unionLength}
 use Rattle.network.specs.Corners.{corners}
-use Rattle.network.specs.Graph.{meets, below, centres}
+use Rattle.network.specs.Graph.{meets}
 use Rattle.network.proofs.Corners.{corners-union}
+use Rattle.network.specs.Entries.{length-table, getD-table}
+use Rattle.groups.specs.Groups.{groupCount, centreOf}
+use Rattle.grid.specs.Tables.{table, padded}
+use Rattle.grid.proofs.Tables.{getD-padded}
 use Rattle.grid.specs.declared.Axis.{Axis}
 use Rattle.grid.proofs.Places.{axis-line}
-use Rattle.intersection.specs.declared.Star.the-variants.{Centre}
-use Rattle.intersection.specs.Star.{starOf}
 use Rattle.job.specs.declared.Job.{Job}
 use Rattle.route.specs.declared.Route.{Route}
 use Rattle.route.specs.Route.{drawnOf, OnGrid, numbered, cornersOf, Tables}
 use Rattle.network.specs.Pits.{pitsOf}
 use Rattle.route.proofs.Corners.{on-numbered, pits-placed}
 use Rattle.plan.specs.declared.Head.{Head}
-use Rattle.plan.specs.Plan.{bookBytes, headOf, meetsOf}
+use Rattle.plan.specs.Plan.{bookBytes, headOf, meetsOf, centreFigure}
 use Rattle.plan.specs.Writers.{entriesAt}
 use Rattle.plan.proofs.Whole.{plan-written, plan-most}
-use Rattle.planner.specs.Verdict.{centresOf}
+use Rattle.laying.specs.declared.Layout.{Layout}
+use Rattle.laying.specs.Lease.{drawnBy, LaidOut}
 use Rattle.planner.specs.Call.{runsOf, numbersOf, planOf}
 use Rattle.planner.specs.Held.{runsIn, Held}
-use Rattle.planner.specs.declared.star.Layout.{Layout}
-use Rattle.planner.specs.Stages.{LaidOut, Lined, drawnBy, ownOf}
+use Rattle.planner.specs.Stages.{Leased, Lined, ownOf}
 use Rattle.planner.proofs.Held.{length-held, length-plane, held-few, numbers-held}
-use Rattle.planner.proofs.Stars.{first-centre}
-use Rattle.planner.proofs.Fits.{few-lines}
+use Rattle.planner.proofs.Fits.{few-lines, distances-bounded}
+use Rattle.planner.proofs.Judged.{centre-judged}
 
 all-imp : {A : Type 0} (P Q : A → Type 0) → ((a : A) → P a → Q a) → (l : List A) → All P l → All Q l
 all-imp P Q f [] a = tt
@@ -41,14 +44,6 @@ all-imp P Q f (x ∷ l) a = (f x (a .0), all-imp P Q f l (a .1))
 -- a grid's own lines are tables of them
 own-tables : (g : Grid) → Tables g (g .columns) (g .rows)
 own-tables g = record { column-at = λ i h. refl; row-at = λ j h. refl }
-
--- the centre is one of the runs
-pub centre-listed : (j : Job) (c : ℕ) → starOf (centresOf (runsOf (runsIn j))) ≡ Centre c → c < j .count
-centre-listed j c e = go (centresOf (runsOf (runsIn j))) refl e
-  where
-    go : (l : List ℕ) → centresOf (runsOf (runsIn j)) ≡ l → starOf l ≡ Centre c → c < j .count
-    go [] q s = absurd (let z : _≡_ {A = ℕ} 0 1 = cc in omega arith)
-    go (d ∷ rest) q s = let z : d ≡ c = cc in omega (arith, first-centre (runsOf (runsIn j)) d rest q .0, length-plane j)
 
 module _ (j : Job) (h : Held j) (laid : Layout) (L : LaidOut (runsOf (runsIn j)) laid) where
   abbrev runs : List Run
@@ -83,6 +78,9 @@ module _ (j : Job) (h : Held j) (laid : Layout) (L : LaidOut (runsOf (runsIn j))
   pub saved-below : laid .saved ≤ sum distance runs
   saved-below = omega (arith, L .best .trench)
 
+  pub saved-word : laid .saved < 4294967296
+  saved-word = omega (arith, saved-below, distances-bounded (runsIn j) (h .well-formed .in-range), h .well-formed .most)
+
   trench-is : sum distance runs - laid .saved ≡ unionLength g (ownOf runs laid)
   trench-is = omega (arith, L .best .trench, union-own)
 
@@ -94,39 +92,43 @@ module _ (j : Job) (h : Held j) (laid : Layout) (L : LaidOut (runsOf (runsIn j))
       ap (λ l. pitsOf (map cornersOf l)) first-routes
       ∙ sym (pits-placed g (lines-few .0) (lines-few .1) (g .columns) (g .rows) (own-tables g) steps (L .on-grid)) ∙ ap pitsOf (sym own-is)
 
-  -- the first centre's number
-  centre-is : (c : ℕ) → starOf (centresOf runs) ≡ Centre c
-      → getD (j .numbers) c 0 ≡ getD (numbersOf (runsIn j)) (getD (centres (meets g runs) (below (length runs))) 0 0) 0
-  unfolding centresOf
-  centre-is c e = numbers-held j h c ∙ ap (λ i. getD (numbersOf (runsIn j)) i 0) (go (centres (meets g runs) (below (length runs))) e)
-    where
-      go : (l : List ℕ) → starOf l ≡ Centre c → c ≡ getD l 0 0
-      go [] q = absurd (let z : _≡_ {A = ℕ} 0 1 = cc in omega arith)
-      go (d ∷ rest) q = cc
-
   -- the figures of the head
-  pub head-is : (c total pits : ℕ) → starOf (centresOf runs) ≡ Centre c → total ≡ sum distance runs
+  pub head-is : (groups total saved pits : ℕ) → groups ≡ groupCount (meets g runs) (j .count) → groups ≤ j .count → total ≡ sum distance runs → saved ≡ laid .saved
       → pits ≡ pitsOf (map cornersOf (take (j .count) (laid .routes))) → pits ≤ 4064
       → _≡_ {A = Head}
       (record {
+        grouped = true;
         job = j .number;
         runs = j .count % 65536;
-        trench = total - laid .saved;
-        saved = laid .saved;
+        trench = total - saved;
+        saved = saved;
         pits = pits % 65536;
-        centre = getD (j .numbers) c 0;
+        last = groups % 65536;
       })
-      (headOf (j .number) (numbersOf (runsIn j)) runs (ownOf runs laid))
-  head-is c total pits s t p few =
+      (headOf (j .number) runs (ownOf runs laid))
+  head-is groups total saved pits s f t v p few =
       let n : j .count % 65536 ≡ length runs = omega (arith, length-plane j, held-few j h) in
-      let u : total - laid .saved ≡ unionLength g (ownOf runs laid) = ap (λ x. x - laid .saved) t ∙ trench-is in
+      let u : total - saved ≡ unionLength g (ownOf runs laid) = ap₂ _-_ t v ∙ trench-is in
+      let x = v ∙ saved-is in
       let o : pits % 65536 ≡ pitsOf (ownOf runs laid) = omega (arith, pits-are) in
-      λ i. record { job = j .number; runs = n i; trench = u i; saved = saved-is i; pits = o i; centre = centre-is c s i }
+      let k : groups % 65536 ≡ groups = omega (arith, f, held-few j h) in
+      let q : groups % 65536 ≡ groupCount (meets g runs) (length runs) = k ∙ s ∙ ap (groupCount (meets g runs)) (sym (length-plane j)) in
+      λ i. record { grouped = true; job = j .number; runs = n i; trench = u i; saved = x i; pits = o i; last = q i }
+
+  -- the numbers of the centres
+  pub centre-number : (sets centres : List ℕ) → Leased j sets centres → (cs : List ℕ)
+      → cs ≡ padded 32 (table (λ i. getD (j .numbers) (getD centres i 0) 0) (j .count)) → (i : ℕ) → i < j .count → getD cs i 0 ≡ centreFigure (numbersOf (runsIn j)) runs i
+  centre-number sets centres S cs e i l =
+      let f : ℕ → ℕ = λ i. getD (j .numbers) (getD centres i 0) 0 in
+      ap (λ l. getD l i 0) e ∙ getD-padded 32 (table f (j .count)) i (omega (arith, held-few j h, length-table f (j .count))) ∙ getD-table f (j .count) i 0 l
+      ∙ numbers-held j h (getD centres i 0)
+      ∙ ap (λ c. getD (numbersOf (runsIn j)) c 0)
+      (centre-judged runs (j .count) (held-few j h) (length-plane j) (S .stars) centres (S .centres-are) i l ∙ ap (λ n. centreOf (meets g runs) n i) (sym (length-plane j)))
 
   -- ---- the bytes
 
-  module _ (columns rows : Axis) (a : Lined runs columns rows) (ms : List ℕ) (m : (i : ℕ) → i < j .count → getD ms i 0 ≡ meetsOf runs i) (head : Head)
-      (e : head ≡ headOf (j .number) (numbersOf (runsIn j)) runs (ownOf runs laid)) where
+  module _ (columns rows : Axis) (a : Lined runs columns rows) (ms : List ℕ) (m : (i : ℕ) → i < j .count → getD ms i 0 ≡ meetsOf runs i) (cs : List ℕ)
+      (k : (i : ℕ) → i < j .count → getD cs i 0 ≡ centreFigure (numbersOf (runsIn j)) runs i) (head : Head) (e : head ≡ headOf (j .number) runs (ownOf runs laid)) where
     lines-held : Tables g (columns .lines) (rows .lines)
     lines-held =
         record {
@@ -134,15 +136,15 @@ module _ (j : Job) (h : Held j) (laid : Layout) (L : LaidOut (runsOf (runsIn j))
           row-at = axis-line rows (g .rows) (a .rows-are);
         }
 
-    pub bytes-are : bookBytes head (entriesAt (columns .lines) (rows .lines) (j .numbers) ms (take (j .count) (laid .routes)))
+    pub bytes-are : bookBytes head (entriesAt (columns .lines) (rows .lines) (j .numbers) ms cs (take (j .count) (laid .routes)))
         ≡ planOf (j .number) (runsIn j) (drawnBy runs laid)
     bytes-are =
-        ap (λ l. bookBytes head (entriesAt (columns .lines) (rows .lines) (j .numbers) ms l)) first-routes
-        ∙ plan-written (j .number) (numbersOf (runsIn j)) runs (columns .lines) (rows .lines) (j .numbers) ms steps head (lines-few .0) (lines-few .1) lines-held
-        (L .on-grid) (e ∙ ap (headOf (j .number) (numbersOf (runsIn j)) runs) own-is)
-        (λ i k. (numbers-held j h i, m i (omega (arith, L .full, length-plane j))))
+        ap (λ l. bookBytes head (entriesAt (columns .lines) (rows .lines) (j .numbers) ms cs l)) first-routes
+        ∙ plan-written (j .number) (numbersOf (runsIn j)) runs (columns .lines) (rows .lines) (j .numbers) ms cs steps head (lines-few .0) (lines-few .1) lines-held
+        (L .on-grid) (e ∙ ap (headOf (j .number) runs) own-is)
+        (λ i l. let o : i < j .count = omega (arith, L .full, length-plane j) in (numbers-held j h i, m i o, k i o))
 
-    pub bytes-fit : length (bookBytes head (entriesAt (columns .lines) (rows .lines) (j .numbers) ms (take (j .count) (laid .routes)))) ≤ 36822
+    pub bytes-fit : length (bookBytes head (entriesAt (columns .lines) (rows .lines) (j .numbers) ms cs (take (j .count) (laid .routes)))) ≤ 36886
     bytes-fit =
         rw bytes-are
         (plan-most (j .number) (numbersOf (runsIn j)) runs (drawnBy runs laid) (omega (arith, length-plane j, held-few j h)) (lines-few .0) (lines-few .1)

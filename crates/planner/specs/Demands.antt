@@ -1,8 +1,7 @@
 -- THE THREE DEMANDS of a call, from what it is lent, what it says and what it leaves: of `plan`, and of the map screen's function, alike.
 use mathlib.Core.Path.{_≡_}
-use mathlib.Core.Bool.{true}
 use mathlib.Core.Logic.{_↔_}
-use mathlib.Core.List.{List, [], map}
+use mathlib.Core.List.{List, map}
 use Prim.Native.Nat.{ℕ, _≤_, _<_}
 use lib.IntN.{ℤ, pos}
 use lib.ListN.{length, take}
@@ -10,7 +9,8 @@ use Rattle.network.specs.Lists.{All}
 use Rattle.network.specs.Plane.{Run}
 use Rattle.network.specs.Hanan.{hanan}
 use Rattle.network.specs.Route.{unionLength, Least}
-use Rattle.network.specs.Graph.{meets, below, isCentre}
+use Rattle.network.specs.Graph.{meets}
+use Rattle.groups.specs.Chains.{StarOf}
 use Rattle.job.specs.declared.Run.{Run as Read}
 use Rattle.refusal.specs.declared.Refusal.{Refusal}
 use Rattle.refusal.specs.declared.Refusal.the-variants.{ShortWork, ShortBuffer, NoStar}
@@ -31,26 +31,24 @@ pub record JobIn (job : List ℕ) : Type 0 where
   pub well-formed : WellFormed number runs
   pub written : job ≡ bytesOf number runs
 
--- "The job is a star when some run, the centre, meets every other run and no two others meet" (01, Lines, boxes, meeting); a job with "no runs now counts as a
--- star" too (02, C-11)
-pub data IsStar : List Run → Type 0 where
-  centred : {runs : List Run} (centre : ℕ) → centre < length runs → isCentre (meets (hanan runs) runs) (below (length runs)) centre ≡ true → IsStar runs
-  blank : IsStar []
+-- "The runs fall into groups: two runs are in one group when a chain of meetings joins them. A job is now accepted if every group is a star" (02, C-16)
+abbrev pub AreStars : List Run → Type 0
+AreStars runs = (i : ℕ) → i < length runs → (c : ℕ) × StarOf (meets (hanan runs) runs) i c
 
--- the words and bytes that are lent are enough, and the job is well formed and a star
+-- the words and bytes that are lent are enough, the job is well formed, and its groups are stars
 pub record Admitted (job : List ℕ) (words bytes : ℕ) : Type 0 where
   pub words-enough : 16384 ≤ words
   pub bytes-enough : 40960 ≤ bytes
   pub job-in : JobIn job
-  pub star : IsStar (runsOf (job-in .runs))
+  pub stars : AreStars (runsOf (job-in .runs))
 
--- When a refusal applies to a call: 1, "work sheet under 16,384 words"; 2, "plan buffer under 40,960 bytes"; 3 to 9 by the job's bytes; 11, "well formed,
--- but no star".
+-- When a refusal applies to a call: 1, "work sheet under 16,384 words"; 2, "plan buffer under 40,960 bytes"; 3 to 9 by the job's bytes; 11 of a job that is well
+-- formed "means that some group isn't" a star (02, C-16).
 pub data Applies (job : List ℕ) (words bytes : ℕ) : Refusal → Type 0 where
   short-work : words < 16384 → Applies job words bytes ShortWork
   short-plan : bytes < 40960 → Applies job words bytes ShortBuffer
   in-bytes : {x : Refusal} → AppliesIn job x → Applies job words bytes x
-  no-star : (j : JobIn job) → (IsStar (runsOf (j .runs)) → ⊥) → Applies job words bytes NoStar
+  no-star : (j : JobIn job) → (AreStars (runsOf (j .runs)) → ⊥) → Applies job words bytes NoStar
 
 -- "The first that applies is given": its number and its place
 pub record Given (job : List ℕ) (words bytes number place : ℕ) : Type 0 where
@@ -73,7 +71,7 @@ pub record LeastPlan (runs : List Read) (head : Head) (es : List Entry) : Type 0
 -- a call that is lent the bytes of a job, so many words and the plan buffer `out`, says s, and leaves `out′`
 pub record Demands (job : List ℕ) (words : ℕ) (out : List ℕ) (s : Said) (out′ : List ℕ) : Type 0 where
   pub demand-1 : Leaves job words out s out′
-  -- a plan is answered exactly if enough is lent, and the job is well formed and a star
+  -- a plan is answered exactly if enough is lent, the job is well formed, and its groups are stars
   pub demand-2 : ((n : ℕ) × (s ≡ gives n)) ↔ Admitted job words (length out)
   -- however the first bytes, as many as are answered, are read as a head and entries, these are a least plan of the job
   pub demand-3 : (n : ℕ) → s ≡ gives n → (j : JobIn job) (head : Head) (es : List Entry) → HeadFits head → All (All PointIn) (map (λ e. e .corners) es)

@@ -1,6 +1,7 @@
 -- The surveyed examples of document 01 as one table with what each row says, a blank job, and one in which cables cross; the job of the listing, and every
 -- blank job, with the one plan that it has. Coordinates are in decimetres, and runs are numbered 1, 2, 3, as written there.
 use mathlib.Core.Path.{_≡_}
+use mathlib.Core.Bool.{true}
 use mathlib.Core.List.{List, [], _∷_, map}
 use Prim.Native.Nat.{ℕ, suc, _+_, _^_, _≤_, _<_}
 use Rattle.network.specs.Plane.{Point, Run, _to_}
@@ -55,15 +56,16 @@ examples =
     ∷ ((run 0 0 3 4 ∷ []) gives figures 7 0)
     ∷ ((run 0 0 3 4 ∷ run 0 0 3 4 ∷ []) gives figures 7 7)
     ∷ ((run 0 0 3 4 ∷ run 0 0 3 4 ∷ run 0 0 3 4 ∷ []) gives refused-11)
-    ∷ ((run 0 0 3 3 ∷ run 3 3 5 5 ∷ []) gives refused-11)
+    -- document 02, C-16: "Rows 5 and 11 of the examples are now accepted with saved 0"
+    ∷ ((run 0 0 3 3 ∷ run 3 3 5 5 ∷ []) gives figures 10 0)
     ∷ ((run 0 0 3 3 ∷ run 3 0 6 3 ∷ []) gives figures 9 3)
     ∷ ((run 0 0 4 3 ∷ run 0 3 4 0 ∷ []) gives figures 10 4)
     ∷ ((run 0 0 4 3 ∷ run 1 1 2 2 ∷ []) gives figures 7 2)
     ∷ ((run 0 0 6 6 ∷ run 0 2 4 0 ∷ run 4 6 6 2 ∷ []) gives figures 16 8)
     ∷ ((run 0 0 4 4 ∷ run 0 2 0 4 ∷ run 1 0 4 0 ∷ []) gives figures 10 3)
-    ∷ ((run 0 2 4 2 ∷ run 2 0 2 4 ∷ []) gives refused-11)
+    ∷ ((run 0 2 4 2 ∷ run 2 0 2 4 ∷ []) gives figures 8 0)
     ∷ ((run 0 0 3 0 ∷ run 2 0 5 0 ∷ []) gives figures 5 1)
-    -- document 02, C-11: "runs, trench, saved, pits and centre all 0"
+    -- document 02, C-11: "runs, trench, saved, pits .. all 0"
     ∷ ([] gives figures-pits 0 0 0)
     -- document 02, C-14: three routes go straight through (2,1), where none ends or turns; besides there are six ends and turns
     ∷ ((run 0 0 4 2 ∷ run 0 1 4 1 ∷ run 2 0 2 2 ∷ []) gives figures-pits 8 4 7)
@@ -105,19 +107,19 @@ abbrev pub job7Runs : List Read
 job7Runs = numberedFrom 1 (run 0 0 40 30 ∷ run 0 10 40 10 ∷ run 20 20 20 50 ∷ [])
 
 abbrev pub job7Head : Head
-job7Head = record { job = 7; runs = 3; trench = 100; saved = 40; pits = 6; centre = 1 }
+job7Head = record { grouped = true; job = 7; runs = 3; trench = 100; saved = 40; pits = 6; last = 1 }
 
 abbrev pub job7Entries : List Entry
 job7Entries =
-    record { number = 1; meets = 2; corners = point 0 0 ∷ point 0 10 ∷ point 40 10 ∷ point 40 30 ∷ [] }
-    ∷ record { number = 2; meets = 1; corners = point 0 10 ∷ point 40 10 ∷ [] }
-    ∷ record { number = 3; meets = 1; corners = point 20 20 ∷ point 20 50 ∷ [] }
+    record { number = 1; meets = 2; centre = 1; corners = point 0 0 ∷ point 0 10 ∷ point 40 10 ∷ point 40 30 ∷ [] }
+    ∷ record { number = 2; meets = 1; centre = 1; corners = point 0 10 ∷ point 40 10 ∷ [] }
+    ∷ record { number = 3; meets = 1; centre = 1; corners = point 20 20 ∷ point 20 50 ∷ [] }
     ∷ []
 
--- ---- blank jobs: "Its plan has runs, trench, saved, pits and centre all 0, no route, and an end of 0" (document 02, C-11)
+-- ---- blank jobs: "Its plan has runs, trench, saved, pits .. all 0, no route, and an end of 0" (document 02, C-11); "A blank job has 0 groups" (C-16)
 
 abbrev pub blankHead : (number : ℕ) → Head
-blankHead number = record { job = number; runs = 0; trench = 0; saved = 0; pits = 0; centre = 0 }
+blankHead number = record { grouped = true; job = number; runs = 0; trench = 0; saved = 0; pits = 0; last = 0 }
 
 -- ---- one plan
 

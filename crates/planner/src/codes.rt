@@ -14,7 +14,7 @@ pub fn code_of(refusal: Refusal) -> i32
 
 // The length of a plan or of a job book.
 pub fn length_code(n: usize) -> i32
-    requires { ⌜ n ≤ 36822 ⌝ }
+    requires { ⌜ n ≤ 36886 ⌝ }
     ensures { λ r. ⌜ r ≡ pos n ⌝ }
 {
     n as i32

@@ -1,12 +1,13 @@
-// Figures of a whole job: the sum of its runs' distances, and the meets figure of each run.
+// Figures of a whole job: the sum of its runs' distances, and of each run the meets figure and the number of its group's centre.
 ghost use mathlib.Core.Path.{_≡_};
-ghost use Prim.Native.Nat.{_≤_, max};
+ghost use Prim.Native.Nat.{ℕ, _≤_, _<_, max};
+ghost use lib.ListN.{getD};
 ghost use Rattle.network.specs.Lists.{sum};
 ghost use Rattle.network.specs.Plane.{gap, distance, _to_};
 ghost use Rattle.network.specs.Graph.{below, degree};
 ghost use Rattle.grid.specs.Tables.{table, padded};
 ghost use Rattle.grid.specs.Runs.{runsHeld};
-ghost use Rattle.intersection.specs.Star.{joinedIn};
+ghost use Rattle.intersection.specs.Centres.{joinedIn};
 ghost use Rattle.planner.specs.Coordinates.{RunsInRange};
 
 // How far apart a and b are.
@@ -53,6 +54,21 @@ pub fn meets_figures(neighbours: &[u32; 32], n: usize) -> [u32; 32]
     let mut i: usize = 0;
     while i < n {
         figures[i] = intersection::meets_of(neighbours, i);
+        i += 1;
+    }
+    figures
+}
+
+// The run numbers of the centres of the first n runs.
+pub fn centre_numbers(numbers: &[u32; 32], centres: &[usize; 32], n: usize) -> [u32; 32]
+    requires { ⌜ (n ≤ 32) × ((i : ℕ) → i < n → getD (now centres) i 0 < 32) ⌝ }
+    ensures { λ r. ⌜ r ≡ padded 32 (table (λ i. getD (now (numbers .entry)) (getD (now (centres .entry)) i 0) 0) n) ⌝ }
+{
+    let mut figures = [0u32; 32];
+    let mut i: usize = 0;
+    while i < n {
+        let centre = centres[i];
+        figures[i] = numbers[centre];
         i += 1;
     }
     figures

@@ -3,9 +3,9 @@ mod clear;
 pub mod codes;
 mod figures;
 mod judge;
-mod star;
+mod survey;
+mod writer;
 
-use intersection::Star;
 use job::Job;
 use refusal::Refusal;
 ghost use mathlib.Core.Path.{_≡_};
@@ -18,7 +18,7 @@ ghost use Rattle.planner.specs.Verdict.{judged, verdict};
 ghost use Rattle.planner.specs.Call.{said, Plans, Words};
 ghost use Rattle.planner.specs.Outcome.{Outcome, MapOutcome};
 ghost use Rattle.planner.specs.Held.{runsIn, Held};
-ghost use Rattle.planner.specs.Stages.{Lent, Enough, Starred, Left};
+ghost use Rattle.planner.specs.Stages.{Lent, Enough, Leased, Left};
 
 // The least plan buffer, in bytes.
 const PLAN_BYTES: usize = 40960;
@@ -29,41 +29,39 @@ pub enum Answer {
     Refused(Refusal),
 }
 
-// The plan of a job whose runs form a star with the given centre, and its length. The work words are left as the table leaves them.
-fn plan_star(
+// The plan of a job whose groups are stars with the given centres, and its length. The work words are left as the last table leaves them.
+fn plan_lease(
     j: Job,
     neighbours: [u32; 32],
-    centre: usize,
+    centres: [usize; 32],
     work: &mut [u32],
     out: &mut [u8],
 ) -> usize
-    requires { ⌜ Starred j neighbours centre × Lent (j .count) (now work) (now out) ⌝ }
+    requires { ⌜ Leased j neighbours centres × Lent (j .count) (now work) (now out) ⌝ }
     ensures { λ r. ⌜ Plans (j .number) (runsIn j) (now (out .entry)) (said (Answer.Planned r)) (now (out .exit)) × Beyond (now (work .entry)) (now (work .exit)) 16384 ⌝ }
 {
-    let x = star::columns_of(j);
-    let y = star::rows_of(j);
+    let x = survey::columns_of(j);
+    let y = survey::rows_of(j);
     let xs = x.side;
     let ys = y.side;
-    let laid = star::lay(xs, ys, j.count, centre, neighbours[centre], work);
+    let laid = laying::lay(xs, ys, j.count, &centres, &neighbours, work);
     let columns = x.axis;
     let rows = y.axis;
-    star::write(j, neighbours, centre, columns, rows, laid, out)
+    writer::write(j, neighbours, centres, columns, rows, laid, out)
 }
 
-// The plan of a well-formed job, unless its runs form no star. A job without runs has no centre, and nothing is laid.
+// The plan of a well-formed job, unless some group of its runs is no star.
 fn plan_job(j: Job, work: &mut [u32], out: &mut [u8]) -> Answer
     requires { ⌜ Held j × Lent (j .count) (now work) (now out) ⌝ }
     ensures { λ r. ⌜ Outcome (judged (accepted (j .number) (runsIn j))) (now (out .entry)) (said r) (now (out .exit)) × Left (said r) (now (work .entry)) (now (work .exit)) ⌝ }
 {
-    if j.count == 0 {
-        return Answer::Planned(star::write_blank(j.number, out));
-    }
     let neighbours = judge::neighbours_of(j);
-    let star = judge::star_in(&neighbours, j.count);
-    match star {
-        Star::NoStar => Answer::Refused(Refusal::NoStar),
-        Star::Centre(centre) => Answer::Planned(plan_star(j, neighbours, centre, work, out)),
+    let found = intersection::finder::centres_of(&neighbours, j.count);
+    if found.stars {
+        let centres = found.centres;
+        return Answer::Planned(plan_lease(j, neighbours, centres, work, out));
     }
+    Answer::Refused(Refusal::NoStar)
 }
 
 // The plan of a job, in work words that are enough for a job of so many bytes.

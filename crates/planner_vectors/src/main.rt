@@ -1,7 +1,7 @@
 // Plans each job on standard input on a dirty work sheet and into a dirty plan buffer, of several sizes. A line of the input is a label, a space
-// and the job's bytes in hexadecimal. A line of the output has the label and, for each call, the refusal's number and place, or the plan's centre,
-// trench, saved and meets figures; then `kept`, or `changed` if a byte or a word that is lent is not as it is due. Four calls of `plan` are
-// followed by two of `plan_for_map`, which answers the refusal's number alone.
+// and the job's bytes in hexadecimal. A line of the output has the label and, for each call, the refusal's number and place, or the plan's groups,
+// trench and saved, and of each run the meets figure and the number of its centre; then `kept`, or `changed` if a byte or a word that is lent is not as it is due.
+// Four calls of `plan` are followed by two of `plan_for_map`, which answers the refusal's number alone.
 use libc::STDIN_FILENO;
 use libc::STDOUT_FILENO;
 use planner::Answer;
@@ -85,16 +85,22 @@ fn print_kept(kept: bool) {
 fn print_record(found: Record) {
     match found {
         Record::Head(head) => {
-            print_number(head.centre as u64);
+            print_number(head.last as u64);
             print_number(head.trench as u64);
             print_number(head.saved as u64);
             print(b" :");
         }
         Record::Route {
+            grouped,
             number,
             meets,
             corners,
-        } => print_number(meets as u64),
+            centre,
+        } => {
+            print_number(meets as u64);
+            print_number(centre as u64);
+            print(b",");
+        }
         Record::Corner { x, y } => {}
         Record::End(_) => {}
         Record::Other => print(b" other"),
@@ -120,14 +126,14 @@ fn print_figures(plan: &[u8]) -> usize {
 // The figures of a plan of this length, and whether its end record, which has 3 bytes, ends there and the bytes behind it are kept.
 fn plan_kept(out: &[u8], length: usize) -> bool {
     let end = print_figures(out);
-    if end > 36819 {
+    if end > 36883 {
         return false;
     }
     (end + 3 == length) & bytes_kept(out, length)
 }
 
 fn length_code(n: usize) -> i32
-    requires { ⌜ n ≤ 36822 ⌝ }
+    requires { ⌜ n ≤ 36886 ⌝ }
 {
     n as i32
 }
@@ -135,7 +141,7 @@ fn length_code(n: usize) -> i32
 // The same for the code that is the plan's length.
 fn map_plan_kept(out: &[u8], code: i32) -> bool {
     let end = print_figures(out);
-    if end > 36819 {
+    if end > 36883 {
         return false;
     }
     (length_code(end + 3) == code) & bytes_kept(out, end + 3)

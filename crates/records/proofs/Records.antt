@@ -1,6 +1,6 @@
 -- The record that bytes begin with: a written record is read back, what is read is its own bytes, then the rest, and its fields fit.
-use mathlib.Core.Path.{_≡_, refl, ap, _∙_}
-use mathlib.Core.Bool.{true}
+use mathlib.Core.Path.{_≡_, refl, sym, ap, _∙_}
+use mathlib.Core.Bool.{Bool, true, false, cond}
 use mathlib.Core.List.{List, [], _∷_, _++_}
 use Prim.Native.Nat.{ℕ, suc, _+_, _^_, _≤_, _<_}
 use native.Mathlib.Omega.{arith}
@@ -13,8 +13,8 @@ use Rattle.job.specs.Written.{bytes2, bytes4, Bytes}
 use Rattle.job.proofs.Fields.{bytes2-word, bytes4-word, word2-bytes, word4-bytes}
 use Rattle.job.proofs.Decoded.{by-test}
 use Rattle.plan.specs.declared.Head.{Head}
-use Rattle.plan.specs.Records.{headRecord, routeRecord, cornerRecord, endRecord}
-use Rattle.plan.specs.Fits.{HeadFits}
+use Rattle.plan.specs.Records.{headRecord, routeRecord, routeSize, cornerRecord, endRecord}
+use Rattle.plan.specs.Fits.{HeadFits, CentreFits}
 use Rattle.records.specs.Records.{headBody, whole, decoded, recordOf}
 use Rattle.records.specs.declared.Record.{Record}
 use Rattle.records.specs.declared.Record.the-variants as rec
@@ -37,27 +37,37 @@ record-some (b ∷ bytes) h = refl
 whole-read : (size : ℕ) (b : List ℕ) (r : Record) → size ≤ length b → whole size b r ≡ r
 whole-read size b r h = rw (le-ltb (length b) size h)
 
+-- the kind of a head
+head-kind : (g : Bool) (b : List ℕ) → decoded (cond g 0x51 0x50) b ≡ whole 18 b (rec.Head (headBody g b))
+unfolding decoded
+head-kind true b = refl
+head-kind false b = refl
+
 -- a head
 pub head-read : (h : Head) (rest : List ℕ) → HeadFits h → recordOf (headRecord h ++ rest) ≡ rec.Head h
-unfolding recordOf decoded
+unfolding recordOf
 head-read h rest f =
-    whole-read 18 (drop 1 (headRecord h ++ rest)) _ (omega arith)
+    head-kind (h .grouped) (drop 1 (headRecord h ++ rest)) ∙ whole-read 18 (drop 1 (headRecord h ++ rest)) _ (omega arith)
     ∙ λ i. rec.Head (record {
+      grouped = h .grouped;
       job = word4-bytes (h .job) (f .job-fits) [] i;
       runs = word2-bytes (h .runs) (f .runs-fits) [] i;
       trench = word4-bytes (h .trench) (f .trench-fits) [] i;
       saved = word4-bytes (h .saved) (f .saved-fits) [] i;
       pits = word2-bytes (h .pits) (f .pits-fits) [] i;
-      centre = word2-bytes (h .centre) (f .centre-fits) [] i;
+      last = word2-bytes (h .last) (f .last-fits) [] i;
     })
 
 -- a route
-pub route-read : (number meets corners : ℕ) (rest : List ℕ) → number < 65536 → meets < 65536 → corners < 65536
-    → recordOf (routeRecord number meets corners ++ rest) ≡ rec.Route number meets corners
+pub route-read : (g : Bool) (number meets corners centre : ℕ) (rest : List ℕ) → number < 65536 → meets < 65536 → corners < 65536 → CentreFits g centre
+    → recordOf (routeRecord g number meets corners centre ++ rest) ≡ rec.Route g number meets corners centre
 unfolding recordOf decoded
-route-read number meets corners rest f g h =
-    whole-read 6 (drop 1 (routeRecord number meets corners ++ rest)) _ (omega arith)
-    ∙ λ i. rec.Route (word2-bytes number f [] i) (word2-bytes meets g [] i) (word2-bytes corners h [] i)
+route-read true number meets corners centre rest f g h k =
+    whole-read 8 (drop 1 (routeRecord true number meets corners centre ++ rest)) _ (omega arith)
+    ∙ λ i. rec.Route true (word2-bytes number f [] i) (word2-bytes meets g [] i) (word2-bytes corners h [] i) (word2-bytes centre k [] i)
+route-read false number meets corners centre rest f g h k =
+    whole-read 6 (drop 1 (routeRecord false number meets corners centre ++ rest)) _ (omega arith)
+    ∙ λ i. rec.Route false (word2-bytes number f [] i) (word2-bytes meets g [] i) (word2-bytes corners h [] i) (sym k i)
 
 -- a corner, as words
 pub corner-read : (p : Point) (rest : List ℕ) → recordOf (cornerRecord p ++ rest) ≡ rec.Corner (wordOf (p .x)) (wordOf (p .y))
@@ -77,9 +87,9 @@ end-read corners rest f = end-kind corners rest ∙ ap rec.End (word2-bytes corn
 -- ---- a record that is read is its own bytes, then the rest
 
 module _ (b : List ℕ) (h : Bytes b) where
-  head-bytes : 18 ≤ length b → 0x50 ∷ b ≡ headRecord (headBody b) ++ drop 18 b
-  head-bytes l =
-      ap (λ t. 0x50 ∷ t)
+  head-bytes : (g : Bool) → 18 ≤ length b → cond g 0x51 0x50 ∷ b ≡ headRecord (headBody g b) ++ drop 18 b
+  head-bytes g l =
+      ap (λ t. cond g 0x51 0x50 ∷ t)
       (bytes4-word b 0 h (omega arith)
       ∙ ap (λ t. bytes4 (word4 b 0) ++ t)
       (bytes2-word b 4 h (omega arith)
@@ -90,11 +100,20 @@ module _ (b : List ℕ) (h : Bytes b) where
       ∙ ap (λ t. bytes4 (word4 b 10) ++ t)
       (bytes2-word b 14 h (omega arith) ∙ ap (λ t. bytes2 (word2 b 14) ++ t) (bytes2-word b 16 h (omega arith)))))))
 
-  route-bytes : 6 ≤ length b → 0x4E ∷ b ≡ routeRecord (word2 b 0) (word2 b 2) (word2 b 4) ++ drop 6 b
-  route-bytes l =
-      ap (λ t. 0x4E ∷ t)
-      (bytes2-word b 0 h (omega arith)
-      ∙ ap (λ t. bytes2 (word2 b 0) ++ t) (bytes2-word b 2 h (omega arith) ∙ ap (λ t. bytes2 (word2 b 2) ++ t) (bytes2-word b 4 h (omega arith))))
+  -- the three fields that a route of either kind begins with
+  fields-bytes : 6 ≤ length b → b ≡ (bytes2 (word2 b 0) ++ bytes2 (word2 b 2) ++ bytes2 (word2 b 4)) ++ drop 6 b
+  fields-bytes l =
+      bytes2-word b 0 h (omega arith)
+      ∙ ap (λ t. bytes2 (word2 b 0) ++ t) (bytes2-word b 2 h (omega arith) ∙ ap (λ t. bytes2 (word2 b 2) ++ t) (bytes2-word b 4 h (omega arith)))
+
+  newer-bytes : 8 ≤ length b → 0x4F ∷ b ≡ routeRecord true (word2 b 0) (word2 b 2) (word2 b 4) (word2 b 6) ++ drop 8 b
+  newer-bytes l =
+      ap (λ t. 0x4F ∷ t)
+      (fields-bytes (omega arith)
+      ∙ ap (λ t. (bytes2 (word2 b 0) ++ bytes2 (word2 b 2) ++ bytes2 (word2 b 4)) ++ t) (bytes2-word b 6 h (omega arith)))
+
+  older-bytes : 6 ≤ length b → 0x4E ∷ b ≡ routeRecord false (word2 b 0) (word2 b 2) (word2 b 4) 0 ++ drop 6 b
+  older-bytes l = ap (λ t. 0x4E ∷ t) (fields-bytes l)
 
   corner-bytes : 8 ≤ length b → 0x43 ∷ b ≡ (0x43 ∷ bytes4 (word4 b 0) ++ bytes4 (word4 b 4)) ++ drop 8 b
   corner-bytes l = ap (λ t. 0x43 ∷ t) (bytes4-word b 0 h (omega arith) ∙ ap (λ t. bytes4 (word4 b 0) ++ t) (bytes4-word b 4 h (omega arith)))
@@ -105,7 +124,7 @@ module _ (b : List ℕ) (h : Bytes b) where
 -- the bytes begin with the record
 abbrev pub Says : List ℕ → Record → Type 0
 Says b (rec.Head h) = b ≡ headRecord h ++ drop 19 b
-Says b (rec.Route number meets corners) = b ≡ routeRecord number meets corners ++ drop 7 b
+Says b (rec.Route g number meets corners centre) = b ≡ routeRecord g number meets corners centre ++ drop (routeSize g) b
 Says b (rec.Corner x y) = b ≡ (0x43 ∷ bytes4 x ++ bytes4 y) ++ drop 9 b
 Says b (rec.End corners) = b ≡ endRecord corners ++ drop 3 b
 Says b rec.Other = Unit {0}
@@ -117,13 +136,15 @@ kinded kind k size b g t s =
 
 -- a record of any kind
 decoded-says : (kind : ℕ) (b : List ℕ) → Bytes b → Says (kind ∷ b) (decoded kind b)
-unfolding decoded
+unfolding decoded routeSize
 decoded-says kind b h =
     let P = Says (kind ∷ b) in
-    by-test P (eqb kind 0x50) (λ t. kinded kind 0x50 18 b _ t (head-bytes b h))
-    (λ _. by-test P (eqb kind 0x4E) (λ t. kinded kind 0x4E 6 b _ t (route-bytes b h))
+    by-test P (eqb kind 0x51) (λ t. kinded kind 0x51 18 b _ t (head-bytes b h true))
+    (λ _. by-test P (eqb kind 0x50) (λ t. kinded kind 0x50 18 b _ t (head-bytes b h false))
+    (λ _. by-test P (eqb kind 0x4F) (λ t. kinded kind 0x4F 8 b _ t (newer-bytes b h))
+    (λ _. by-test P (eqb kind 0x4E) (λ t. kinded kind 0x4E 6 b _ t (older-bytes b h))
     (λ _. by-test P (eqb kind 0x43) (λ t. kinded kind 0x43 8 b _ t (corner-bytes b h))
-    (λ _. by-test P (eqb kind 0x5A) (λ t. kinded kind 0x5A 2 b _ t (end-bytes b h)) (λ _. tt))))
+    (λ _. by-test P (eqb kind 0x5A) (λ t. kinded kind 0x5A 2 b _ t (end-bytes b h)) (λ _. tt))))))
 
 -- the record that the bytes begin with
 pub record-says : (bytes : List ℕ) → Bytes bytes → Says bytes (recordOf bytes)
@@ -135,7 +156,7 @@ record-says (kind ∷ b) h = decoded-says kind b (λ i. h (suc i))
 
 abbrev pub Fits : Record → Type 0
 Fits (rec.Head h) = HeadFits h
-Fits (rec.Route number meets corners) = (number < 65536) × (meets < 65536)
+Fits (rec.Route g number meets corners centre) = (number < 65536) × (meets < 65536) × CentreFits g centre
 Fits (rec.Corner x y) = (x < 2 ^ 32) × (y < 2 ^ 32)
 Fits (rec.End corners) = Unit {0}
 Fits rec.Other = Unit {0}
@@ -149,21 +170,26 @@ word4-fits b i h = omega (arith, h i, h (i + 1), h (i + 2), h (i + 3))
 whole-fits : (size : ℕ) (b : List ℕ) (g : Record) → Fits g → Fits (whole size b g)
 whole-fits size b g f = by-test Fits (ltb (length b) size) (λ _. tt) (λ _. f)
 
-decoded-fits : (kind : ℕ) (b : List ℕ) → Bytes b → Fits (decoded kind b)
-unfolding decoded
-decoded-fits kind b h =
-    by-test Fits (eqb kind 0x50)
-    (λ _. whole-fits 18 b _ (record {
+head-fits : (g : Bool) (b : List ℕ) → Bytes b → HeadFits (headBody g b)
+head-fits g b h =
+    record {
       job-fits = word4-fits b 0 h;
       runs-fits = word2-fits b 4 h;
       trench-fits = word4-fits b 6 h;
       saved-fits = word4-fits b 10 h;
       pits-fits = word2-fits b 14 h;
-      centre-fits = word2-fits b 16 h;
-    }))
-    (λ _. by-test Fits (eqb kind 0x4E) (λ _. whole-fits 6 b _ (word2-fits b 0 h, word2-fits b 2 h))
+      last-fits = word2-fits b 16 h;
+    }
+
+decoded-fits : (kind : ℕ) (b : List ℕ) → Bytes b → Fits (decoded kind b)
+unfolding decoded
+decoded-fits kind b h =
+    by-test Fits (eqb kind 0x51) (λ _. whole-fits 18 b _ (head-fits true b h))
+    (λ _. by-test Fits (eqb kind 0x50) (λ _. whole-fits 18 b _ (head-fits false b h))
+    (λ _. by-test Fits (eqb kind 0x4F) (λ _. whole-fits 8 b _ (word2-fits b 0 h, word2-fits b 2 h, word2-fits b 6 h))
+    (λ _. by-test Fits (eqb kind 0x4E) (λ _. whole-fits 6 b _ (word2-fits b 0 h, word2-fits b 2 h, refl))
     (λ _. by-test Fits (eqb kind 0x43) (λ _. whole-fits 8 b _ (word4-fits b 0 h, word4-fits b 4 h))
-    (λ _. by-test Fits (eqb kind 0x5A) (λ _. whole-fits 2 b _ tt) (λ _. tt))))
+    (λ _. by-test Fits (eqb kind 0x5A) (λ _. whole-fits 2 b _ tt) (λ _. tt))))))
 
 pub record-fits : (bytes : List ℕ) → Bytes bytes → Fits (recordOf bytes)
 unfolding recordOf

@@ -1,5 +1,6 @@
--- The record that bytes begin with, read as document 01's "Plan book" writes it; `Other` where they begin with no whole record of the four kinds.
-use mathlib.Core.Bool.{cond}
+-- The record that bytes begin with, read as document 01's "Plan book" and document 02's C-16 write it; `Other` where they begin with no whole record of the
+-- six kinds.
+use mathlib.Core.Bool.{Bool, true, false, cond}
 use mathlib.Core.List.{List, [], _∷_}
 use Prim.Native.Nat.{ℕ}
 use lib.ListN.{length}
@@ -10,9 +11,25 @@ use Rattle.records.specs.declared.Record.{Record}
 use Rattle.records.specs.declared.Record.the-variants as rec
 
 -- the head in the 18 bytes of a body
-abbrev pub headBody : List ℕ → Head
-headBody b =
-    record { job = word4 b 0; runs = word2 b 4; trench = word4 b 6; saved = word4 b 10; pits = word2 b 14; centre = word2 b 16 }
+abbrev pub headBody : (grouped : Bool) → List ℕ → Head
+headBody grouped b =
+    record {
+      grouped = grouped;
+      job = word4 b 0;
+      runs = word2 b 4;
+      trench = word4 b 6;
+      saved = word4 b 10;
+      pits = word2 b 14;
+      last = word2 b 16;
+    }
+
+-- the route in the 8 bytes of a body
+abbrev pub newerRoute : List ℕ → Record
+newerRoute b = rec.Route true (word2 b 0) (word2 b 2) (word2 b 4) (word2 b 6)
+
+-- the older one in 6 bytes; it tells no centre, which is read as 0
+abbrev pub olderRoute : List ℕ → Record
+olderRoute b = rec.Route false (word2 b 0) (word2 b 2) (word2 b 4) 0
 
 -- a record whose body has so many bytes, unless the bytes end before that
 abbrev pub whole : ℕ → List ℕ → Record → Record
@@ -21,10 +38,12 @@ whole size bytes r = cond (ltb (length bytes) size) rec.Other r
 -- the record of a kind, its body being what the bytes begin with
 unfoldable pub decoded : (kind : ℕ) → List ℕ → Record
 decoded kind bytes =
-    cond (eqb kind 0x50) (whole 18 bytes (rec.Head (headBody bytes)))
-    (cond (eqb kind 0x4E) (whole 6 bytes (rec.Route (word2 bytes 0) (word2 bytes 2) (word2 bytes 4)))
+    cond (eqb kind 0x51) (whole 18 bytes (rec.Head (headBody true bytes)))
+    (cond (eqb kind 0x50) (whole 18 bytes (rec.Head (headBody false bytes)))
+    (cond (eqb kind 0x4F) (whole 8 bytes (newerRoute bytes))
+    (cond (eqb kind 0x4E) (whole 6 bytes (olderRoute bytes))
     (cond (eqb kind 0x43) (whole 8 bytes (rec.Corner (word4 bytes 0) (word4 bytes 4)))
-    (cond (eqb kind 0x5A) (whole 2 bytes (rec.End (word2 bytes 0))) rec.Other)))
+    (cond (eqb kind 0x5A) (whole 2 bytes (rec.End (word2 bytes 0))) rec.Other)))))
 
 -- the record that the bytes begin with
 unfoldable pub recordOf : List ℕ → Record

@@ -24,5 +24,5 @@ module _ (number : ℕ) (runs : List Read) (w : WellFormed number runs) (routes 
   plan-lists rest = plan-listing (planHead number runs routes) (planEntries runs routes) (plan-right number runs w routes m) rest
 
   -- which has at most 74,421 bytes
-  pub plan-room : length (planText (planHead number runs routes) (planEntries runs routes)) ≤ 74421
+  pub plan-room : length (planText (planHead number runs routes) (planEntries runs routes)) ≤ 74837
   plan-room = plan-text-most (planHead number runs routes) (planEntries runs routes) (plan-right number runs w routes m)

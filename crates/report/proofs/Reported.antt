@@ -24,7 +24,7 @@ use Rattle.planner.specs.declared.Answer.the-variants.{Planned, Refused}
 use Rattle.planner.specs.Call.{runsOf, planOf}
 use Rattle.planner.specs.Figures.{planHead, planEntries}
 use Rattle.planner.specs.Verdict.{judged}
-use Rattle.planner.specs.Demands.{IsStar}
+use Rattle.planner.specs.Demands.{AreStars}
 use Rattle.planner.proofs.Stars.{judged-refuses, job-star}
 use Rattle.text.specs.Text.{planText, refusalText}
 use Rattle.text.specs.Listing.{listingOf}
@@ -89,7 +89,7 @@ place-few job x e =
 judged-place : (job : List ℕ) (x : Refusal) → judged (parse job) ≡ refused x → refusalPlace x ≤ 640
 judged-place job x e = go (judged-refuses (parse job) x e)
   where
-    go : (parse job ≡ refused x) ⊎ ((number : ℕ) × (runs : List Read) × (parse job ≡ accepted number runs) × (IsStar (runsOf runs) → ⊥) × (x ≡ NoStar))
+    go : (parse job ≡ refused x) ⊎ ((number : ℕ) × (runs : List Read) × (parse job ≡ accepted number runs) × (AreStars (runsOf runs) → ⊥) × (x ≡ NoStar))
         → refusalPlace x ≤ 640
     go (inl r) = place-few job x r
     go (inr (number, runs, r, n, z)) = rw z (omega arith)
@@ -106,7 +106,7 @@ ReportedWhole (accepted number runs) text text′ n = ListsWhole number runs tex
 ReportedWhole (refused x) text text′ n = Wrote (refusalText x) text text′ n
 
 -- A text buffer of 74,421 bytes has room for every text.
-pub report-whole : (job text text′ : List ℕ) (n : ℕ) → Bytes job → 74421 ≤ length text → Reported (judged (parse job)) text text′ n
+pub report-whole : (job text text′ : List ℕ) (n : ℕ) → Bytes job → 74837 ≤ length text → Reported (judged (parse job)) text text′ n
     → ReportedWhole (judged (parse job)) text text′ n
 report-whole job text text′ n b room r = go (judged (parse job)) refl r
   where

@@ -1,5 +1,5 @@
--- The listing of a job that has one least plan is one text: that of job 7 is the sample of document 01, "Listing", byte for byte, and that of a job without
--- runs is one line.
+-- The listing of a job that has one least plan is one text: that of job 7 is the sample of document 01, "Listing", with the groups and the centres of
+-- document 02, C-16, byte for byte, and that of a job without runs is one line.
 use mathlib.Core.Path.{_≡_, refl, sym, ap, ap₂, _∙_, subst}
 use mathlib.Core.List.{List, [], _++_, append-assoc, flatMap}
 use Prim.Native.Nat.{ℕ, _<_, _^_}
@@ -19,11 +19,11 @@ use Rattle.text.specs.Text.{planText, refusalText}
 use Rattle.text.specs.Listed.{Listed}
 use Rattle.report.specs.Report.{Reported}
 
--- document 01's lines
+-- document 01's lines, with the groups and the centres of document 02, C-16
 abbrev sample : List ℕ
 sample =
     ascii
-    "job 7 runs 3 centre 1 trench 100 saved 40 pits 6\nroute 1 meets 2 corners 4: 0,0 0,10 40,10 40,30\nroute 2 meets 1 corners 2: 0,10 40,10\nroute 3 meets 1 corners 2: 20,20 20,50\n"
+    "job 7 runs 3 groups 1 trench 100 saved 40 pits 6\nroute 1 meets 2 centre 1 corners 4: 0,0 0,10 40,10 40,30\nroute 2 meets 1 centre 1 corners 2: 0,10 40,10\nroute 3 meets 1 centre 1 corners 2: 20,20 20,50\n"
 
 -- they are the text of the job's one plan
 sample-text : planText job7Head job7Entries ≡ sample
@@ -45,13 +45,13 @@ sample-listed text text′ n r =
 
 -- the line of a job without runs
 abbrev pub blankLine : (number : ℕ) → List ℕ
-blankLine number = ascii "job " ++ decimal number ++ ascii " runs 0 centre 0 trench 0 saved 0 pits 0\n"
+blankLine number = ascii "job " ++ decimal number ++ ascii " runs 0 groups 0 trench 0 saved 0 pits 0\n"
 
 -- it is the text of the job's one plan: behind the number all is given, and is gathered part by part
 blank-text : (number : ℕ) → planText (blankHead number) [] ≡ blankLine number
 unfolding planText decimal digits flatMap
 blank-text number =
-    ap (λ l. ascii "job " ++ l) (gather (decimal number) (ascii " runs 0") (ascii " centre 0") (ascii " trench 0 saved 0 pits 0") (ascii "\n") [])
+    ap (λ l. ascii "job " ++ l) (gather (decimal number) (ascii " runs 0") (ascii " groups 0") (ascii " trench 0 saved 0 pits 0") (ascii "\n") [])
   where
     gather : (d a b c e f : List ℕ) → d ++ a ++ b ++ c ++ e ++ f ≡ d ++ (a ++ b ++ c ++ e ++ f)
     gather d a b c e f =
@@ -66,7 +66,7 @@ pub blank-listed : (number : ℕ) → number < 2 ^ 32 → (text text′ : List �
 blank-listed number f text text′ n r =
     subst (λ t. Listed t text text′ n) (blank-text number) (one-plan-listed number [] (blankHead number) [] (examples.blank-plan number f) text text′ n r)
 
--- and what is listed of a job that is no star
+-- and what is listed of a job with a group that is no star
 pub refusal-sample : refusalText NoStar ≡ ascii "refused 11 at 0\n"
 unfolding refusalText decimal digits
 refusal-sample = refl

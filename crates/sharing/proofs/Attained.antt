@@ -14,6 +14,8 @@ use Rattle.network.specs.Route.{Route, Manhattan, on}
 use Rattle.network.specs.Graph.{runAt, meets}
 use Rattle.network.specs.Steps.{Dir, hor, ver, other, steps, Lane, extent, Frame, drawn}
 use Rattle.network.proofs.Numbers.{gap-rise}
+use Rattle.network.proofs.Sums.{sum-below, term-le}
+use Rattle.network.proofs.Meeting.{meets-listed}
 use Rattle.network.proofs.Along.{selected}
 use Rattle.network.proofs.Steps.{stepEdge}
 use Rattle.network.proofs.Drawn.{stepSum, from-steps, drawn-selected}
@@ -31,8 +33,7 @@ use Rattle.sharing.proofs.Stretch.{mine-owner}
 use Rattle.sharing.proofs.Leaf.{Passes, At, here, past, leaf-leads, leaf-passes}
 use Rattle.sharing.proofs.View.{edge-length}
 use Rattle.sharing.proofs.Frames.{laneOf, frame-extent, step-edge, complete, passes-on}
-use Rattle.sharing.proofs.Centre.{edgeFrom, meets-listed, seen, leaf-is, leaf-lies, separate}
-use Rattle.sharing.proofs.Sums.{sum-below, term-le}
+use Rattle.sharing.proofs.Centre.{edgeFrom, seen, leaf-is, leaf-lies, separate}
 use Rattle.sharing.proofs.Most.{figure-is, weight, common-is, rises-forward}
 
 -- ---- the sum of w over the steps of a walk, the last step first

@@ -1,36 +1,23 @@
 -- The leaves of a centre are separate, and an edge's owner is the run, of those that the centre meets, whose box has it.
-use mathlib.Core.Path.{_≡_, refl, sym, ap, _∙_}
-use mathlib.Core.Logic.{_⊎_, inl, inr}
+use mathlib.Core.Path.{_≡_, refl, sym, _∙_}
 use mathlib.Core.Bool.{Bool, true, false, cond, true≢false}
 use mathlib.Core.List.{List}
-use Prim.Native.Nat.{ℕ, _+_, _≤_, _<_}
+use Prim.Native.Nat.{ℕ, _+_, _<_}
 use native.Mathlib.Omega.{arith}
 use native.Mathlib.Decide.{ℕ-discrete}
-use lib.ListN.{length, List·getD-eq-default}
-use Rattle.network.specs.Plane.{Run, _to_}
-use Rattle.network.specs.Grid.{Grid, Edge, inside}
-use Rattle.network.specs.Graph.{origin, runAt, meets}
+use lib.ListN.{length}
+use Rattle.network.specs.Plane.{Run}
+use Rattle.network.specs.Grid.{Edge, inside}
+use Rattle.network.specs.Graph.{runAt, meets}
 use Rattle.network.specs.Steps.{Dir, other}
-use Rattle.network.proofs.Numbers.{order}
 use Rattle.network.proofs.Edges.{OfGrid}
-use Rattle.network.proofs.Meeting.{edge-overlap, overlap-comm, meets-true, true-meets, point-overlap}
+use Rattle.network.proofs.Meeting.{edge-overlap, true-meets, meets-listed}
 use Rattle.sharing.specs.Box.{Box, hi, nowhere, falls}
 use Rattle.sharing.specs.Instance.{none, ownerIf, owner}
 use Rattle.sharing.specs.View.{View, edge, Shows}
 use Rattle.sharing.specs.Star.{starOf, Centred}
 use Rattle.sharing.proofs.Owners.{Lies, EdgeIn, Separate, owner-is, owner-none}
 use Rattle.sharing.proofs.View.{Seen, edge-of, lies-inside, lies-edges}
-
--- a run that is met is one of the list
-pub meets-listed : (g : Grid) (runs : List Run) (c k : ℕ) → meets g runs c k ≡ true → k < length runs
-meets-listed g runs c k h = go (order (length runs) k)
-  where
-    go : (length runs ≤ k) ⊎ (k < length runs) → k < length runs
-    go (inl o) =
-        let point : runAt runs k ≡ origin to origin = List·getD-eq-default runs (origin to origin) o in
-        absurd (true≢false (sym (meets-true g runs c k h .1) ∙ overlap-comm g (runAt runs c) (runAt runs k)
-        ∙ point-overlap g (runAt runs k) (runAt runs c) (ap (λ (r : Run). r .first) point ∙ sym (ap (λ (r : Run). r .second) point))))
-    go (inr o) = o
 
 -- no edge lies in the box of a single point
 nowhere-lies : (d : Dir) (s t : ℕ) → Lies nowhere d s t → ⊥

@@ -10,10 +10,9 @@ pub mod View
 pub mod Frames
 pub mod Slopes
 pub mod Centre
-pub mod Sums
+pub mod Numbered
 pub mod Most
 pub mod Attained
-pub mod Excess
 pub mod Theorem
 pub mod Runs
 pub mod Fill

@@ -19,7 +19,8 @@ use Rattle.network.specs.Graph.{runAt, meets, below}
 use Rattle.network.specs.Excess.{shared}
 use Rattle.network.specs.Steps.{Dir, hor, ver, other, Lane, extent}
 use Rattle.network.proofs.Numbers.{gap-rise}
-use Rattle.network.proofs.Sums.{sum-cong, sum-swap}
+use Rattle.network.proofs.Sums.{sum-cong, sum-swap, cond-sum, sum-below, one-term}
+use Rattle.network.proofs.Meeting.{meets-listed}
 use Rattle.network.proofs.Edges.{OfGrid}
 use Rattle.network.proofs.Along.{selected, on-route-inside}
 use Rattle.network.proofs.Steps.{nextColumn, nextRow, stepEdge, to-steps}
@@ -37,8 +38,7 @@ use Rattle.sharing.proofs.Bound.{pick, worth, bounded}
 use Rattle.sharing.proofs.View.{Edges, edge-of, edge-length, inside-lies}
 use Rattle.sharing.proofs.Frames.{laneOf, frame-extent, step-edge}
 use Rattle.sharing.proofs.Slopes.{slope, rises-sloped, falls-sloped}
-use Rattle.sharing.proofs.Centre.{edgeFrom, LiesFrom, meets-listed, seen, separate, lies-leaf, leaf-owner}
-use Rattle.sharing.proofs.Sums.{cond-sum, sum-below, one-term}
+use Rattle.sharing.proofs.Centre.{edgeFrom, LiesFrom, seen, separate, lies-leaf, leaf-owner}
 
 -- the figure is the last best word, less one
 pub figure-is : (I : Instance) (T : Table) → figure I T ≡ pred (all T hor (I .size hor) (I .size ver))

@@ -18,13 +18,14 @@ use Rattle.network.specs.Grid.{Grid}
 use Rattle.network.specs.Graph.{meets}
 use Rattle.network.specs.Steps.{Dir, hor, ver, other}
 use Rattle.network.proofs.Tests.{and-split, outcome}
+use Rattle.network.proofs.Meeting.{meets-listed}
 use Rattle.sharing.specs.Box.{Box, lo, hi, passes, liesIn, falls}
 use Rattle.sharing.specs.Instance.{Instance, ownerIf, owner}
 use Rattle.sharing.specs.Table.{arrival}
 use Rattle.sharing.specs.View.{lines, View, numbered}
 use Rattle.sharing.specs.Star.{starOf, Centred}
 use Rattle.sharing.proofs.Owners.{Lies, EdgeIn, lies-in, in-lies}
-use Rattle.sharing.proofs.Centre.{meets-listed, lies-leaf, separate, leaf-owner, no-owner}
+use Rattle.sharing.proofs.Centre.{lies-leaf, separate, leaf-owner, no-owner}
 use Rattle.intersection.specs.Sets.{has}
 use Rattle.intersection.proofs.Digits.{has-and, has-power, has-pack, none-has, same-set, trailing-below, trailing-at}
 use Rattle.table.specs.declared.side.Side.{Side}

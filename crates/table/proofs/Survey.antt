@@ -1,7 +1,7 @@
 -- From the arrays of a job to its sides, its group and its star: what the functions of this crate promise, put together. So the table that `fill` leaves
 -- is exact for the star, `figure_of` answers the star's figure, and `trace_of` its traced moves.
 use mathlib.Core.Path.{_≡_, ap, _∙_}
-use mathlib.Core.Bool.{true}
+use mathlib.Core.Bool.{true, false}
 use mathlib.Core.List.{List}
 use Prim.Native.Nat.{ℕ, suc, pred, _-_, _≤_, _<_}
 use native.Mathlib.Omega.{arith}
@@ -12,14 +12,13 @@ use Rattle.network.specs.Route.{Listed}
 use Rattle.network.specs.Hanan.{hanan}
 use Rattle.network.specs.Distinct.{distinct}
 use Rattle.network.specs.Plane.{Run}
-use Rattle.network.specs.Graph.{runAt, meets, isCentre, below}
+use Rattle.network.specs.Graph.{runAt, meets}
 use Rattle.network.specs.Steps.{Dir, hor, ver}
 use Rattle.sharing.specs.Table.{Exact, figure}
 use Rattle.sharing.specs.Walk.{Traced}
 use Rattle.sharing.specs.Star.{starOf, Centred}
 use Rattle.sharing.proofs.Trace.{traced}
 use Rattle.sharing.proofs.Runs.{indexed-shows, facing-rises}
-use Rattle.sharing.proofs.Theorem.{star-centred}
 use Rattle.grid.specs.declared.Axis.{Axis}
 use Rattle.grid.specs.Tables.{table, padded}
 use Rattle.grid.specs.Runs.{runsHeld}
@@ -135,13 +134,17 @@ module _ (x1 y1 x2 y2 : List ℕ) (n : ℕ) (few : n ≤ 32) (a b : Axis) (ea : 
 
 -- ---- the star
 
--- the centre of a job that is one star is centred in the view that the sides give
+-- a run of which no two neighbours meet is centred in the view that the sides give
 pub sides-centred : (grid : Grid) (runs : List Run) (xs ys : Side) (c leaves : ℕ) → OnSides grid runs xs ys c leaves → c < length runs
-    → isCentre (meets grid runs) (below (length runs)) c ≡ true → Centred (viewBy grid xs ys c) runs (boxBy grid xs ys c) c
-sides-centred grid runs xs ys c leaves S h star =
-    star-centred (viewBy grid xs ys c) runs (boxBy grid xs ys c) c star h
-    (λ k l. indexed-shows (viewBy grid xs ys c) (runAt runs k) (firstAt xs ys k) (secondAt xs ys k) (S .first-at k l) (S .second-at k l))
-    (facing-rises grid (firstAt xs ys c) (secondAt xs ys c) (λ d. S .first-at c h .fits d) (λ d. S .second-at c h .fits d))
+    → ((j k : ℕ) → meets grid runs c j ≡ true → meets grid runs c k ≡ true → meets grid runs j k ≡ false)
+    → Centred (viewBy grid xs ys c) runs (boxBy grid xs ys c) c
+sides-centred grid runs xs ys c leaves S h apart =
+    record {
+      listed = h;
+      shows = λ k l. indexed-shows (viewBy grid xs ys c) (runAt runs k) (firstAt xs ys k) (secondAt xs ys k) (S .first-at k l) (S .second-at k l);
+      rises = facing-rises grid (firstAt xs ys c) (secondAt xs ys c) (λ d. S .first-at c h .fits d) (λ d. S .second-at c h .fits d);
+      apart = apart;
+    }
 
 module _ (grid : Grid) (runs : List Run) (xs ys : Side) (c leaves : ℕ) (S : OnSides grid runs xs ys c leaves)
     (C : Centred (viewBy grid xs ys c) runs (boxBy grid xs ys c) c)

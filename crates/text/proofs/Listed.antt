@@ -44,10 +44,6 @@ listed t xs ys n w =
 pub listed-same : (t xs ys : List ℕ) (n : ℕ) → Listed t xs ys n → length ys ≡ length xs
 listed-same t xs ys n p = cut-same t xs ys n (p .wrote)
 
--- no more is written than there is room for
-pub listed-room : (t xs ys : List ℕ) (n : ℕ) → Listed t xs ys n → n ≤ length xs
-listed-room t xs ys n p = omega (arith, p .wrote .size, cut-length t xs)
-
 -- nothing written
 pub listed-none : (xs : List ℕ) → Listed [] xs xs 0
 unfolding over

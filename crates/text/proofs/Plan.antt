@@ -1,5 +1,6 @@
 -- The text of a written plan is the plan's text: each record is read back, and the line feed that stands before a line in one is behind it in the other.
 use mathlib.Core.Path.{_≡_, refl, sym, ap, ap₂, _∙_}
+use mathlib.Core.Bool.{Bool}
 use mathlib.Core.List.{List, [], _∷_, _++_, flatMap, append-assoc, append-nil}
 use Prim.Native.Nat.{ℕ, _<_}
 use native.Mathlib.Omega.{arith}
@@ -10,7 +11,8 @@ use Rattle.network.specs.Plane.{Point}
 use Rattle.plan.specs.declared.Head.{Head}
 use Rattle.plan.specs.Records.{headRecord, routeRecord, cornerRecord, endRecord}
 use Rattle.plan.specs.Plan.{Entry, entryBytes, totalCorners, bookBytes}
-use Rattle.plan.specs.Fits.{PointIn, HeadFits}
+use Rattle.plan.specs.Fits.{PointIn, HeadFits, CentreFits}
+use Rattle.plan.proofs.Length.{behind-route}
 use Rattle.book.specs.Right.{RightEntry, RightBook}
 use Rattle.records.proofs.Records.{head-read, route-read, corner-read, end-kind}
 use Rattle.text.specs.Numerals.{ascii}
@@ -34,10 +36,12 @@ unfolding recordText recordSize
 head-listing h rest f = listing-of (headRecord h ++ rest) (rec.Head h) (head-read h rest f)
 
 -- a route begins a line
-route-listing : (number meets corners : ℕ) (rest : List ℕ) → number < 65536 → meets < 65536 → corners < 65536
-    → listingOf (routeRecord number meets corners ++ rest) ≡ (ascii "\n" ++ routeText number meets corners) ++ listingOf rest
+route-listing : (g : Bool) (number meets corners centre : ℕ) (rest : List ℕ) → number < 65536 → meets < 65536 → corners < 65536 → CentreFits g centre
+    → listingOf (routeRecord g number meets corners centre ++ rest) ≡ (ascii "\n" ++ routeText g number meets centre corners) ++ listingOf rest
 unfolding recordText recordSize
-route-listing number meets corners rest f g h = listing-of (routeRecord number meets corners ++ rest) _ (route-read number meets corners rest f g h)
+route-listing g number meets corners centre rest f m h k =
+    listing-of (routeRecord g number meets corners centre ++ rest) _ (route-read g number meets corners centre rest f m h k)
+    ∙ ap (λ l. (ascii "\n" ++ routeText g number meets centre corners) ++ listingOf l) (behind-route g number meets corners centre rest)
 
 -- a corner, in decimetres
 corner-listing : (p : Point) (rest : List ℕ) → PointIn p → listingOf (cornerRecord p ++ rest) ≡ pointText p ++ listingOf rest
@@ -66,26 +70,26 @@ corners-listing (p ∷ ps) rest a =
     ∙ sym (append-assoc (pointText p) (flatMap pointText ps) (listingOf rest))
 
 -- the records of a run
-entry-listing : (e : Entry) (rest : List ℕ) → RightEntry e → listingOf (entryBytes e ++ rest) ≡ (ascii "\n" ++ entryText e) ++ listingOf rest
-entry-listing e rest r =
-    let route = routeRecord (e .number) (e .meets) (length (e .corners)) in
-    let line = ascii "\n" ++ routeText (e .number) (e .meets) (length (e .corners)) in
+entry-listing : (g : Bool) (e : Entry) (rest : List ℕ) → RightEntry g e → listingOf (entryBytes g e ++ rest) ≡ (ascii "\n" ++ entryText g e) ++ listingOf rest
+entry-listing g e rest r =
+    let route = routeRecord g (e .number) (e .meets) (length (e .corners)) (e .centre) in
+    let line = ascii "\n" ++ routeText g (e .number) (e .meets) (e .centre) (length (e .corners)) in
     ap listingOf (append-assoc route (flatMap cornerRecord (e .corners)) rest)
-    ∙ route-listing (e .number) (e .meets) (length (e .corners)) (flatMap cornerRecord (e .corners) ++ rest) (r .number-fits) (r .meets-fits)
-    (omega (arith, r .few))
+    ∙ route-listing g (e .number) (e .meets) (length (e .corners)) (e .centre) (flatMap cornerRecord (e .corners) ++ rest) (r .number-fits) (r .meets-fits)
+    (omega (arith, r .few)) (r .centre-fits)
     ∙ ap (λ t. line ++ t) (corners-listing (e .corners) rest (r .in-range))
     ∙ sym (append-assoc line (flatMap pointText (e .corners)) (listingOf rest))
 
 -- the records of all runs
-entries-listing : (es : List Entry) (rest : List ℕ) → All RightEntry es
-    → listingOf (flatMap entryBytes es ++ rest) ≡ flatMap (λ e. ascii "\n" ++ entryText e) es ++ listingOf rest
+entries-listing : (g : Bool) (es : List Entry) (rest : List ℕ) → All (RightEntry g) es
+    → listingOf (flatMap (entryBytes g) es ++ rest) ≡ flatMap (λ e. ascii "\n" ++ entryText g e) es ++ listingOf rest
 unfolding flatMap
-entries-listing [] rest r = refl
-entries-listing (e ∷ es) rest r =
-    ap listingOf (append-assoc (entryBytes e) (flatMap entryBytes es) rest)
-    ∙ entry-listing e (flatMap entryBytes es ++ rest) (r .0)
-    ∙ ap (λ t. (ascii "\n" ++ entryText e) ++ t) (entries-listing es rest (r .1))
-    ∙ sym (append-assoc (ascii "\n" ++ entryText e) (flatMap (λ e. ascii "\n" ++ entryText e) es) (listingOf rest))
+entries-listing g [] rest r = refl
+entries-listing g (e ∷ es) rest r =
+    ap listingOf (append-assoc (entryBytes g e) (flatMap (entryBytes g) es) rest)
+    ∙ entry-listing g e (flatMap (entryBytes g) es ++ rest) (r .0)
+    ∙ ap (λ t. (ascii "\n" ++ entryText g e) ++ t) (entries-listing g es rest (r .1))
+    ∙ sym (append-assoc (ascii "\n" ++ entryText g e) (flatMap (λ e. ascii "\n" ++ entryText g e) es) (listingOf rest))
 
 -- a separator before each text and one at the end, or one first and then one behind each
 separators : {A : Type 0} (s : List ℕ) (f : A → List ℕ) (l : List A) → flatMap (λ a. s ++ f a) l ++ s ≡ s ++ flatMap (λ a. f a ++ s) l
@@ -100,11 +104,12 @@ separators s f (a ∷ l) =
 pub plan-listing : (head : Head) (es : List Entry) → RightBook head es → (rest : List ℕ) → listingOf (bookBytes head es ++ rest) ≡ planText head es
 unfolding bookBytes planText
 plan-listing head es r rest =
+    let g = head .grouped in
     let end = endRecord (totalCorners es) in
-    let lines = flatMap (λ e. ascii "\n" ++ entryText e) es in
-    ap listingOf
-    (append-assoc (headRecord head) (flatMap entryBytes es ++ end) rest ∙ ap (λ l. headRecord head ++ l) (append-assoc (flatMap entryBytes es) end rest))
-    ∙ head-listing head (flatMap entryBytes es ++ (end ++ rest)) (r .head-fits)
+    let runs = flatMap (entryBytes g) es in
+    let lines = flatMap (λ e. ascii "\n" ++ entryText g e) es in
+    ap listingOf (append-assoc (headRecord head) (runs ++ end) rest ∙ ap (λ l. headRecord head ++ l) (append-assoc runs end rest))
+    ∙ head-listing head (runs ++ (end ++ rest)) (r .head-fits)
     ∙ ap (λ t. headText head ++ t)
-    (entries-listing es (end ++ rest) (r .entries) ∙ ap (λ t. lines ++ t) (end-listing (totalCorners es) rest) ∙ separators (ascii "\n") entryText es)
-    ∙ sym (append-assoc (headText head) (ascii "\n") (flatMap (λ e. entryText e ++ ascii "\n") es))
+    (entries-listing g es (end ++ rest) (r .entries) ∙ ap (λ t. lines ++ t) (end-listing (totalCorners es) rest) ∙ separators (ascii "\n") (entryText g) es)
+    ∙ sym (append-assoc (headText head) (ascii "\n") (flatMap (λ e. entryText g e ++ ascii "\n") es))

@@ -7,6 +7,7 @@ use borrow.Author.Tests.{ltb-false}
 use lib.Dec.{ltb, eqb}
 use lib.ListN.{length}
 use Rattle.job.proofs.Decoded.{by-test}
+use Rattle.plan.specs.Records.{routeSize}
 use Rattle.records.specs.Records.{whole, decoded, recordOf}
 use Rattle.text.specs.Listing.{recordSize}
 use Rattle.records.specs.declared.Record.{Record}
@@ -30,15 +31,17 @@ passes-whole size b r e =
 
 -- a record of any kind
 decoded-passes : (kind : ℕ) (b : List ℕ) → Passes (suc (length b)) (decoded kind b)
-unfolding decoded recordSize
+unfolding decoded recordSize routeSize
 decoded-passes kind b =
     let P = Passes (suc (length b)) in
-    by-test P (eqb kind 0x50) (λ _. passes-whole 18 b _ refl)
+    by-test P (eqb kind 0x51) (λ _. passes-whole 18 b _ refl)
+    (λ _. by-test P (eqb kind 0x50) (λ _. passes-whole 18 b _ refl)
+    (λ _. by-test P (eqb kind 0x4F) (λ _. passes-whole 8 b _ refl)
     (λ _. by-test P (eqb kind 0x4E) (λ _. passes-whole 6 b _ refl)
     (λ _. by-test P (eqb kind 0x43) (λ _. passes-whole 8 b _ refl)
     (λ _. by-test P (eqb kind 0x5A)
     (λ _. by-test P (ltb (length b) 2) (λ _. passes-all (suc (length b))) (λ _. record { some = omega arith; most = omega arith }))
-    (λ _. passes-all (suc (length b))))))
+    (λ _. passes-all (suc (length b))))))))
 
 -- the record that the bytes begin with
 pub record-passes : (bytes : List ℕ) → Passes (length bytes) (recordOf bytes)

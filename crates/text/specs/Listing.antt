@@ -7,6 +7,7 @@ use mir.Syntax.{w32}
 use mir.Val.{toZ}
 use Rattle.text.specs.Numerals.{ascii}
 use Rattle.text.specs.Text.{headText, routeText, cornerText}
+use Rattle.plan.specs.Records.{routeSize}
 use Rattle.records.specs.Records.{recordOf}
 use Rattle.records.specs.declared.Record.{Record}
 use Rattle.records.specs.declared.Record.the-variants as rec
@@ -15,7 +16,7 @@ use Rattle.records.specs.declared.Record.the-variants as rec
 -- complement: `toZ w32` is the machine's signed reading of a word.
 unfoldable pub recordText : Record → List ℕ
 recordText (rec.Head h) = headText h
-recordText (rec.Route number meets corners) = ascii "\n" ++ routeText number meets corners
+recordText (rec.Route grouped number meets corners centre) = ascii "\n" ++ routeText grouped number meets centre corners
 recordText (rec.Corner x y) = cornerText (toZ w32 x) (toZ w32 y)
 recordText (rec.End corners) = ascii "\n"
 recordText rec.Other = []
@@ -23,7 +24,7 @@ recordText rec.Other = []
 -- how many of the bytes are passed over: a record's own, or all that are left
 unfoldable pub recordSize : Record → (left : ℕ) → ℕ
 recordSize (rec.Head h) left = 19
-recordSize (rec.Route number meets corners) left = 7
+recordSize (rec.Route grouped number meets corners centre) left = routeSize grouped
 recordSize (rec.Corner x y) left = 9
 recordSize (rec.End corners) left = left
 recordSize rec.Other left = left

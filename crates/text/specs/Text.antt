@@ -1,6 +1,8 @@
 -- The text of a plan and of a refusal, line by line (01, Listing): "Line 1 is the head; each later line has run number, meets, number of corners,
--- then the corners. A refusal prints `refused 11 at 0`, with its own number and place .. every line ends in one line feed."
-use mathlib.Core.List.{List, _++_, flatMap}
+-- then the corners. A refusal prints `refused 11 at 0`, with its own number and place .. every line ends in one line feed." Of a plan of the new kinds it "says
+-- `groups` for `centre` and adds `centre` before `corners`" (02, C-16).
+use mathlib.Core.Bool.{Bool, true, false}
+use mathlib.Core.List.{List, [], _++_, flatMap}
 use Prim.Native.Nat.{ℕ}
 use lib.ListN.{length}
 use lib.IntN.{ℤ}
@@ -16,15 +18,25 @@ use Rattle.text.specs.Numerals.{ascii, decimal, signed}
 abbrev pub figuresText : Head → List ℕ
 figuresText h = (ascii " trench " ++ decimal (h .trench)) ++ (ascii " saved " ++ decimal (h .saved)) ++ (ascii " pits " ++ decimal (h .pits))
 
--- `job 7 runs 3 centre 1`, then the figures
-abbrev pub headText : Head → List ℕ
-headText h =
-    (ascii "job " ++ decimal (h .job)) ++ (ascii " runs " ++ decimal (h .runs)) ++ (ascii " centre " ++ decimal (h .centre)) ++ figuresText h
+-- ` groups 1`, of an older plan ` centre 1`
+abbrev pub lastText : (grouped : Bool) → ℕ → List ℕ
+lastText true n = ascii " groups " ++ decimal n
+lastText false n = ascii " centre " ++ decimal n
 
--- `route 1 meets 2 corners 4:`, which the corners follow
-abbrev pub routeText : (number meets corners : ℕ) → List ℕ
-routeText number meets corners =
-    (ascii "route " ++ decimal number) ++ (ascii " meets " ++ decimal meets) ++ (ascii " corners " ++ decimal corners) ++ ascii ":"
+-- `job 7 runs 3 groups 1`, then the figures
+abbrev pub headText : Head → List ℕ
+headText h = (ascii "job " ++ decimal (h .job)) ++ (ascii " runs " ++ decimal (h .runs)) ++ lastText (h .grouped) (h .last) ++ figuresText h
+
+-- ` centre 1`, of an older plan nothing
+abbrev pub centreText : (grouped : Bool) → ℕ → List ℕ
+centreText true n = ascii " centre " ++ decimal n
+centreText false n = []
+
+-- `route 1 meets 2 centre 1 corners 4:`, which the corners follow
+abbrev pub routeText : (grouped : Bool) (number meets centre corners : ℕ) → List ℕ
+routeText grouped number meets centre corners =
+    (ascii "route " ++ decimal number) ++ (ascii " meets " ++ decimal meets) ++ centreText grouped centre ++ (ascii " corners " ++ decimal corners)
+    ++ ascii ":"
 
 -- ` 40,10`, in decimetres
 abbrev pub cornerText : (x y : ℤ) → List ℕ
@@ -35,12 +47,12 @@ abbrev pub pointText : Point → List ℕ
 pointText p = cornerText (decimetres (p .x)) (decimetres (p .y))
 
 -- the line of a run, without its line feed
-abbrev pub entryText : Entry → List ℕ
-entryText e = routeText (e .number) (e .meets) (length (e .corners)) ++ flatMap pointText (e .corners)
+abbrev pub entryText : (grouped : Bool) → Entry → List ℕ
+entryText grouped e = routeText grouped (e .number) (e .meets) (e .centre) (length (e .corners)) ++ flatMap pointText (e .corners)
 
 -- a plan: the head's line, then a line for each run
 unfoldable pub planText : Head → List Entry → List ℕ
-planText h es = (headText h ++ ascii "\n") ++ flatMap (λ e. entryText e ++ ascii "\n") es
+planText h es = (headText h ++ ascii "\n") ++ flatMap (λ e. entryText (h .grouped) e ++ ascii "\n") es
 
 -- `refused 11 at 0`
 abbrev pub refusedText : (number place : ℕ) → List ℕ

@@ -9,7 +9,7 @@ ghost use lib.ListN.{length, replicate};
 ghost use mir.Syntax.{w32};
 ghost use mir.Val.{toZ};
 ghost use Rattle.text.specs.Numerals.{ascii, decimal, signed};
-ghost use Rattle.text.specs.Text.{figuresText, headText, routeText, cornerText, refusedText, refusalText};
+ghost use Rattle.text.specs.Text.{figuresText, lastText, headText, centreText, routeText, cornerText, refusedText, refusalText};
 ghost use Rattle.text.specs.Listing.{recordText, Sized, listingOf};
 ghost use Rattle.text.specs.Listed.{Listed, ListedRecord};
 
@@ -81,21 +81,56 @@ fn write_figures(text: &mut [u8], head: Head) -> usize
     at + write_field(&mut text[at..], b" pits ", head.pits as u64)
 }
 
+// The number of groups, or in an older plan the centre's run number.
+fn write_last(text: &mut [u8], grouped: bool, last: u64) -> usize
+    ensures { λ n. ⌜ Listed (lastText grouped last) (now (text .entry)) (now (text .exit)) n ⌝ }
+{
+    if grouped {
+        return write_field(text, b" groups ", last);
+    }
+    write_field(text, b" centre ", last)
+}
+
 fn write_head(text: &mut [u8], head: Head) -> usize
     ensures { λ n. ⌜ Listed (headText head) (now (text .entry)) (now (text .exit)) n ⌝ }
 {
     let mut at = write_field(text, b"job ", head.job as u64);
     at += write_field(&mut text[at..], b" runs ", head.runs as u64);
-    at += write_field(&mut text[at..], b" centre ", head.centre as u64);
+    at += write_last(&mut text[at..], head.grouped, head.last as u64);
     at + write_figures(&mut text[at..], head)
 }
 
-// A new line, and what it says of a route before the corners.
-fn write_route(text: &mut [u8], number: u32, meets: u32, corners: u32) -> usize
-    ensures { λ n. ⌜ Listed (ascii "\n" ++ routeText number meets corners) (now (text .entry)) (now (text .exit)) n ⌝ }
+// A new line, with a run's number and its meets figure.
+fn write_run(text: &mut [u8], number: u64, meets: u64) -> usize
+    ensures { λ n. ⌜ Listed ((ascii "\nroute " ++ decimal number) ++ (ascii " meets " ++ decimal meets)) (now (text .entry)) (now (text .exit)) n ⌝ }
 {
-    let mut at = write_field(text, b"\nroute ", number as u64);
-    at += write_field(&mut text[at..], b" meets ", meets as u64);
+    let at = write_field(text, b"\nroute ", number);
+    at + write_field(&mut text[at..], b" meets ", meets)
+}
+
+// The run number of a group's centre, which an older plan does not tell.
+fn write_centre(text: &mut [u8], grouped: bool, centre: u64) -> usize
+    ensures { λ n. ⌜ Listed (centreText grouped centre) (now (text .entry)) (now (text .exit)) n ⌝ }
+{
+    if grouped {
+        return write_field(text, b" centre ", centre);
+    }
+    0
+}
+
+// A new line, and what it says of a route before the corners.
+fn write_route(
+    text: &mut [u8],
+    grouped: bool,
+    number: u32,
+    meets: u32,
+    centre: u32,
+    corners: u32,
+) -> usize
+    ensures { λ n. ⌜ Listed (ascii "\n" ++ routeText grouped number meets centre corners) (now (text .entry)) (now (text .exit)) n ⌝ }
+{
+    let mut at = write_run(text, number as u64, meets as u64);
+    at += write_centre(&mut text[at..], grouped, centre as u64);
     at += write_field(&mut text[at..], b" corners ", corners as u64);
     at + write_byte(&mut text[at..], b':')
 }
@@ -133,10 +168,12 @@ pub fn record_size(found: Record, left: usize) -> usize
     match found {
         Record::Head(head) => 19,
         Record::Route {
+            grouped,
             number,
             meets,
             corners,
-        } => 7,
+            centre,
+        } => records::route_size(grouped),
         Record::Corner { x, y } => 9,
         Record::End(_) => left,
         Record::Other => left,
@@ -149,10 +186,12 @@ fn write_record(text: &mut [u8], found: Record) -> usize
     match found {
         Record::Head(head) => write_head(text, head),
         Record::Route {
+            grouped,
             number,
             meets,
             corners,
-        } => write_route(text, number, meets, corners),
+            centre,
+        } => write_route(text, grouped, number, meets, centre, corners),
         Record::Corner { x, y } => write_corner(text, x, y),
         Record::End(_) => write_byte(text, b'\n'),
         Record::Other => 0,
@@ -187,9 +226,9 @@ pub fn list_plan(plan: &[u8], text: &mut [u8]) -> usize
 }
 
 // Zeros, enough for every text of a plan with at most 32 runs and of a refusal.
-pub fn buffer() -> [u8; 74421]
-    ensures { λ r. ⌜ r ≡ replicate 74421 0 ⌝ }
-    ensures { λ r. ⌜ 74421 ≡ length r ⌝ }
+pub fn buffer() -> [u8; 74837]
+    ensures { λ r. ⌜ r ≡ replicate 74837 0 ⌝ }
+    ensures { λ r. ⌜ 74837 ≡ length r ⌝ }
 {
-    [0; 74421]
+    [0; 74837]
 }

@@ -15,7 +15,7 @@ use Rattle.job_writer.specs.Call.{callOf}
 use Rattle.job_writer.proofs.Books.{job-books}
 use Rattle.planner.specs.Call.{runsOf}
 use Rattle.planner.specs.Verdict.{judged, verdict}
-use Rattle.planner.specs.Demands.{IsStar}
+use Rattle.planner.specs.Demands.{AreStars}
 use Rattle.planner.proofs.Verdicts.{enough}
 use Rattle.planner.proofs.Stars.{judged-refuses}
 
@@ -26,6 +26,6 @@ written-planned number list out n room x fits w long e =
     by runs (judged-refuses (accepted number runs) x (sym (enough _ 16384 room (omega arith) long ∙ ap judged read) ∙ e))
   where
     by : (runs : List Run)
-        → (accepted number runs ≡ refused x) ⊎ ((m : ℕ) × (rs : List Run) × (accepted number runs ≡ accepted m rs) × (IsStar (runsOf rs) → ⊥) × (x ≡ NoStar)) → x ≡ NoStar
+        → (accepted number runs ≡ refused x) ⊎ ((m : ℕ) × (rs : List Run) × (accepted number runs ≡ accepted m rs) × (AreStars (runsOf rs) → ⊥) × (x ≡ NoStar)) → x ≡ NoStar
     by runs (inl q) = absurd (let z : _≡_ {A = ℕ} 0 1 = cc in omega arith)
     by runs (inr (m, rs, q, s, z)) = z

@@ -1,4 +1,5 @@
 -- What C is told of a plan book (document 02, C-12): the number of routes or minus the refusal number, the place, and figures, routes and corners as words.
+use mathlib.Core.Bool.{Bool, cond}
 use mathlib.Core.List.{List, [], _∷_}
 use Prim.Native.Nat.{ℕ}
 use lib.IntN.{ℤ, pos, negℤ}
@@ -22,13 +23,17 @@ abbrev pub placeOf : Parsed → ℕ
 placeOf (accepted h es) = 0
 placeOf (refused x) = refusalPlace x
 
--- six figures, three of a route, two of a corner; no word for what there is not
+-- the kind of a head: 0x51, or 0x50 of an older book (02, C-16)
+abbrev pub kindOf : Bool → ℕ
+kindOf grouped = cond grouped 0x51 0x50
+
+-- seven figures, the last of them the head's kind, four of a route, two of a corner; no word for what there is not
 abbrev pub figureWords : Figures → List ℕ
-figureWords (figures.Found h) = h .job ∷ h .runs ∷ h .trench ∷ h .saved ∷ h .pits ∷ h .centre ∷ []
+figureWords (figures.Found h) = h .job ∷ h .runs ∷ h .trench ∷ h .saved ∷ h .pits ∷ h .last ∷ kindOf (h .grouped) ∷ []
 figureWords figures.Nothing = []
 
 abbrev pub routeWords : Route → List ℕ
-routeWords (route.Found number meets corners) = number ∷ meets ∷ corners ∷ []
+routeWords (route.Found number meets corners centre) = number ∷ meets ∷ corners ∷ centre ∷ []
 routeWords route.Nothing = []
 
 abbrev pub spotWords : Spot → List ℤ

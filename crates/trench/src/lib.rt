@@ -15,7 +15,7 @@ ghost use Rattle.book.specs.Parse.{parsePlan};
 ghost use Rattle.book.specs.Reading.{figuresOf, placesOf, routeBy, cornerBy};
 ghost use Rattle.trench.specs.Words.{Filled};
 ghost use Rattle.trench.specs.Jobs.{outcomeCode, outcomePlace};
-ghost use Rattle.trench.specs.Told.{codeOf, placeOf, figureWords, routeWords, spotWords};
+ghost use Rattle.trench.specs.Told.{codeOf, placeOf, kindOf, figureWords, routeWords, spotWords};
 
 // Plans a job: the plan's length, or minus the refusal number.
 #[no_mangle]
@@ -81,7 +81,14 @@ pub extern "C" fn trench_read_place(book: &[u8]) -> usize
     }
 }
 
-// The figures of a plan book: job, runs, trench, saved, pits, centre.
+// The kind of a head.
+fn kind_of(grouped: bool) -> u32
+    ensures { λ r. ⌜ r ≡ kindOf grouped ⌝ }
+{
+    if grouped { 0x51 } else { 0x50 }
+}
+
+// The figures of a plan book: job, runs, trench, saved, pits, groups or centre, and the kind of its head.
 #[no_mangle]
 pub extern "C" fn trench_figures(book: &[u8], figures: &mut [u32]) -> usize
     ensures { λ n. ⌜ Filled (figureWords (figuresOf (parsePlan (now (book .entry))))) (now (figures .entry)) (now (figures .exit)) n ⌝ }
@@ -90,7 +97,7 @@ pub extern "C" fn trench_figures(book: &[u8], figures: &mut [u32]) -> usize
     let Figures::Found(head) = found else {
         return 0;
     };
-    if figures.len() < 6 {
+    if figures.len() < 7 {
         return 0;
     }
     figures[0] = head.job;
@@ -98,8 +105,9 @@ pub extern "C" fn trench_figures(book: &[u8], figures: &mut [u32]) -> usize
     figures[2] = head.trench;
     figures[3] = head.saved;
     figures[4] = head.pits;
-    figures[5] = head.centre;
-    6
+    figures[5] = head.last;
+    figures[6] = kind_of(head.grouped);
+    7
 }
 
 // The places of a plan book's routes, of its end, and zeros.
@@ -120,7 +128,7 @@ pub extern "C" fn trench_places(book: &[u8], places: &mut [u32]) -> usize
     33
 }
 
-// Route i of a plan book by its places: run number, meets, corners.
+// Route i of a plan book by its places: run number, meets, corners, centre.
 #[no_mangle]
 pub extern "C" fn trench_route(book: &[u8], places: &[u32], i: usize, route: &mut [u32]) -> usize
     ensures { λ n. ⌜ Filled (routeWords (routeBy (now (book .entry)) (now (places .entry)) i)) (now (route .entry)) (now (route .exit)) n ⌝ }
@@ -130,17 +138,19 @@ pub extern "C" fn trench_route(book: &[u8], places: &[u32], i: usize, route: &mu
         number,
         meets,
         corners,
+        centre,
     } = found
     else {
         return 0;
     };
-    if route.len() < 3 {
+    if route.len() < 4 {
         return 0;
     }
     route[0] = number;
     route[1] = meets;
     route[2] = corners;
-    3
+    route[3] = centre;
+    4
 }
 
 // Corner j of route i of a plan book by its places: x, y in decimetres.

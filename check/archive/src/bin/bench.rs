@@ -1,7 +1,7 @@
 //! The benchmark: the archive's planner, two C planners and the independent planner on the same jobs, and the archive's reader
 //! and the plain C reader on the same plan books, in one run. With the program `table_rounds`, filling and tracing alone are timed
 //! as well. With `--limit` it is a test: exit status 1 where the proved code takes more than so many times as long as C, planning
-//! for all sizes of jobs together.
+//! for all sizes of jobs together, or where a lease takes longer than its groups as jobs of their own.
 
 use std::hint::black_box;
 use std::path::Path;
@@ -13,17 +13,21 @@ use trench_archive::ended;
 use trench_archive::program::table_figure;
 use trench_check::book::job_bytes;
 use trench_check::generate::spread_star;
-use trench_check::job::{MOST_RUNS, Point};
-use trench_check::plan_book::{MOST_CORNERS, PlanBook, RouteRecord};
+use trench_check::graph::Survey;
+use trench_check::job::{Job, MOST_RUNS, Point};
+use trench_check::leases::spread_lease;
+use trench_check::plan_book::{Kinds, MOST_CORNERS, PlanBook, RouteRecord};
 use trench_check::planner::plan_surveyed;
 use trench_check::random::Random;
-use trench_check::refusal::{PLAN_ROOM, surveyed};
+use trench_check::refusal::{self, PLAN_ROOM, surveyed};
 
 const USAGE: &str = "\
 usage: bench [PROGRAM]                  times planners and readers, and PROGRAM, which is `table_rounds`, against C
        bench --limit FACTOR [PROGRAM]   fails where planner, reader or PROGRAM takes more than FACTOR times as long as C";
 
 const RUNS: [usize; 9] = [2, 3, 4, 6, 8, 12, 16, 24, 32];
+/// Leases: so many groups of so many runs.
+const LEASES: [(usize, usize); 2] = [(4, 8), (16, 2)];
 /// Jobs of each size.
 const JOBS: u64 = 16;
 /// Rounds, of which the quickest counts; the independent planner has fewer.
@@ -52,11 +56,14 @@ const PATIENCE: u32 = 10;
 /// For jobs of one size the limit is so many times the one for all: C clears 16,384 words for the smallest job too, and how long
 /// that takes is the machine's affair.
 const LEEWAY: f64 = 2.0;
+/// A lease takes at most so many times as long as its groups do as jobs of their own: no longer, but for what measuring leaves open.
+const LEASE_LIMIT: f64 = 1.05;
 
 const NOTE: &str = "\
 Microseconds a job: the quickest of 400 rounds over the same 16 jobs of each size. The planners take turns in each round, but for
 the independent one, which comes last and has 40: it would leave cold caches to the one behind it.
-Each job is a star of so many runs on a grid of twice as many columns and rows, all of it in the centre's box.
+Each job is a star of so many runs on a grid of twice as many columns and rows, all of it in the centre's box, or a lease of several
+such stars side by side: 4 x 8 are four groups of eight runs.
 Every planner reads the job book, tests it, plans it and writes the plan book. Plan buffers are not cleared between calls.
 `proved` is the archive's planner. It has work words of its own, which it sets to 0 before its work, as many as a job of its
 length can need: 1,024 for up to 8 runs, 4,096 for up to 16, 9,216 for up to 24, else 16,384. The compiler leaves out the
@@ -73,6 +80,11 @@ Filling the table and tracing the walk alone, for the first 8 of the jobs of 32 
 `proved` is the program crates/table_rounds, which calls the planner's `fill` and `trace_of` and is timed from outside, as a
 process; `C` and `tuned` are the same work by bench/table.c, called in the benchmark. A round is what 2,001 rounds take more than 1, by the
 quickest of 40 runs of each, divided by 2,000, in processor time. They take turns, and neither clears the table between rounds.";
+
+const LEASE_NOTE: &str = "\
+Leases and their groups, in microseconds: `proved` is a lease planned as one job, `one group` one of its groups as a job of its own,
+on average, and `all groups` as many times that. The quickest of 400 rounds, in which both take turns. Wanted is a ratio of at most 1:
+that no group pays for another.";
 
 const READING_NOTE: &str = "\
 Reading a plan book, in microseconds a book: the quickest of 400 rounds, in which both readers take turns.
@@ -103,10 +115,10 @@ fn benchmark(program: &str) -> bool {
     );
     println!("|---:|---:|---:|---:|---:|---:|---:|---:|---:|");
     let rows = rows();
-    for (runs, [proved, table, clearing, tuned, independent]) in RUNS.iter().zip(&rows) {
+    for (size, [proved, table, clearing, tuned, independent]) in sizes().iter().zip(&rows) {
         let (by_clearing, by_tuned, to_proved) = (proved / clearing, proved / tuned, independent / proved);
         println!(
-            "| {runs} | {proved:.2} | {table:.2} | {clearing:.2} | {tuned:.2} | {independent:.0} | {by_clearing:.2} | {by_tuned:.2} | {to_proved:.0} |"
+            "| {size} | {proved:.2} | {table:.2} | {clearing:.2} | {tuned:.2} | {independent:.0} | {by_clearing:.2} | {by_tuned:.2} | {to_proved:.0} |"
         );
     }
     println!("\nHow the cost grows from n runs to 2n, which has four times the vertices:\n");
@@ -118,6 +130,8 @@ fn benchmark(program: &str) -> bool {
             at(from).iter().zip(at(to)).map(|(less, more)| format!("x {:.1}", more / less)).collect();
         println!("| {from} | {to} | {} |", factors.join(" | "));
     }
+    println!();
+    print_leases();
     println!();
     print_readings();
     println!();
@@ -173,7 +187,7 @@ impl Table<'_> {
 
     fn round(&mut self) {
         for (rounds, quickest) in [FEW, self.many].into_iter().zip(&mut self.quickest) {
-            let frame = frame_of(&self.job, rounds).expect("a star");
+            let frame = frame_of(&self.job, 0, rounds).expect("a star");
             let start = processor_time(Whose::Programs);
             let proved = table_figure(self.program, &frame).unwrap_or_else(|error| panic!("{}: {error}", self.program));
             let proved_time = processor_time(Whose::Programs) - start;
@@ -201,11 +215,39 @@ fn books(runs: usize) -> Vec<Vec<u8>> {
     (0..JOBS).map(|n| job_bytes(&spread_star(&mut Random::nth(runs as u64, n), runs))).collect()
 }
 
+/// Leases of so many groups of so many runs.
+fn leases((groups, runs): (usize, usize)) -> Vec<Vec<u8>> {
+    let lease = |n| spread_lease(&mut Random::nth((100 * groups + runs) as u64, n), groups, runs);
+    (0..JOBS).map(|n| job_bytes(&lease(n))).collect()
+}
+
+/// The groups of a job, each as a job of its own.
+fn groups_of(job: &[u8]) -> Vec<Vec<u8>> {
+    let Survey { job, graph, .. } = Survey::of(refusal::read(job).expect("a well-formed job"));
+    let alone = |group: &Vec<usize>| Job { number: job.number, runs: group.iter().map(|&i| job.runs[i]).collect() };
+    graph.groups().iter().map(|group| job_bytes(&alone(group))).collect()
+}
+
+/// What a lease is called.
+fn lease_name((groups, runs): (usize, usize)) -> String {
+    format!("{groups} x {runs}")
+}
+
+/// The sizes of all jobs: stars, then leases.
+fn sizes() -> Vec<String> {
+    RUNS.iter().map(usize::to_string).chain(LEASES.map(lease_name)).collect()
+}
+
+/// The jobs of these sizes.
+fn jobs() -> Vec<Vec<Vec<u8>>> {
+    RUNS.iter().map(|&runs| books(runs)).chain(LEASES.map(leases)).collect()
+}
+
 /// Microseconds a job for each planner, for each size. A round has all sizes, so that a slow while of the machine spoils none.
 fn rows() -> Vec<[f64; 5]> {
-    let books: Vec<Vec<Vec<u8>>> = RUNS.iter().map(|&runs| books(runs)).collect();
+    let books = jobs();
     let mut out = vec![0; PLAN_ROOM];
-    let mut rows = vec![[f64::INFINITY; 5]; RUNS.len()];
+    let mut rows = vec![[f64::INFINITY; 5]; books.len()];
     let functions = [Function::Archive, Function::Table, Function::TableClearing, Function::TunedClearing];
     for _ in 0..ROUNDS {
         for (books, quickest) in books.iter().zip(&mut rows) {
@@ -216,8 +258,8 @@ fn rows() -> Vec<[f64; 5]> {
     for _ in 0..FEWER {
         for (books, quickest) in books.iter().zip(&mut rows) {
             let independent = timed(books, 1, |job| {
-                let survey = surveyed(job).expect("a star");
-                black_box(PlanBook::of(&survey.job, &plan_surveyed(&survey).expect("a star")).bytes());
+                let survey = surveyed(job).expect("stars");
+                black_box(PlanBook::of(&survey.job, &plan_surveyed(&survey).expect("stars")).bytes());
             });
             quickest[4] = independent.min(quickest[4]);
         }
@@ -248,6 +290,11 @@ trait Contest {
     fn times(&self) -> [f64; 3];
     fn name(&self) -> String;
 
+    /// What it is compared with.
+    fn rival(&self) -> &'static str {
+        "C"
+    }
+
     /// What is held against the limit.
     fn ratio(&self) -> f64 {
         self.times()[0] / self.times()[1]
@@ -269,7 +316,7 @@ fn range<T: Contest>(contests: &[T], ratio: fn(&T) -> f64) -> String {
 
 /// Planning jobs of one size, against C with clearing.
 struct Planning {
-    runs: usize,
+    size: String,
     books: Vec<Vec<u8>>,
     out: Vec<u8>,
     quickest: [f64; 3],
@@ -286,7 +333,7 @@ impl Contest for Planning {
     }
 
     fn name(&self) -> String {
-        format!("trench_plan on {} runs", self.runs)
+        format!("trench_plan on {} runs", self.size)
     }
 }
 
@@ -303,7 +350,65 @@ impl Contest for Sizes {
     }
 
     fn name(&self) -> String {
-        "trench_plan on a job of each size".to_string()
+        "trench_plan on a job of each size, leases among them".to_string()
+    }
+}
+
+/// Planning leases, against their groups as jobs of their own.
+struct Leases {
+    size: String,
+    whole: Vec<Vec<u8>>,
+    /// The groups of all of them.
+    groups: Vec<Vec<u8>>,
+    out: Vec<u8>,
+    quickest: [f64; 2],
+}
+
+impl Leases {
+    fn of(size: (usize, usize)) -> Leases {
+        let whole = leases(size);
+        let groups = whole.iter().flat_map(|job| groups_of(job)).collect();
+        let out = vec![0; PLAN_ROOM];
+        Leases { size: lease_name(size), whole, groups, out, quickest: [f64::INFINITY; 2] }
+    }
+
+    /// The number of groups of a lease.
+    fn groups_of_one(&self) -> usize {
+        self.groups.len() / self.whole.len()
+    }
+}
+
+impl Contest for Leases {
+    fn round(&mut self) {
+        let whole = called(Function::Archive, &self.whole, &mut self.out);
+        let alone = called(Function::Archive, &self.groups, &mut self.out) * self.groups_of_one() as f64;
+        keep(&mut self.quickest, [whole, alone]);
+    }
+
+    fn times(&self) -> [f64; 3] {
+        [self.quickest[0], self.quickest[1], self.quickest[1]]
+    }
+
+    fn name(&self) -> String {
+        format!("trench_plan on a lease of {} runs", self.size)
+    }
+
+    fn rival(&self) -> &'static str {
+        "its groups as jobs of their own"
+    }
+}
+
+/// Times leases and their groups.
+fn print_leases() {
+    println!("{LEASE_NOTE}\n");
+    println!("| lease | proved | one group | groups | all groups | lease / groups |");
+    println!("|---:|---:|---:|---:|---:|---:|");
+    let mut contests = LEASES.map(Leases::of);
+    (0..ROUNDS).for_each(|_| contests.iter_mut().for_each(Contest::round));
+    for lease in &contests {
+        let ([whole, alone], groups, ratio) = (lease.quickest, lease.groups_of_one(), lease.ratio());
+        let one = alone / groups as f64;
+        println!("| {} | {whole:.2} | {one:.2} | {groups} | {alone:.2} | {ratio:.2} |", lease.size);
     }
 }
 
@@ -390,10 +495,11 @@ fn readings(corners: bool) -> [Reading; 2] {
 /// A book of 32 routes with 127 corners each, all of them stairs.
 fn longest_book() -> Vec<u8> {
     let stairs: Vec<Point> = (0..MOST_CORNERS as i32).map(|k| Point::new((k + 1) / 2, k / 2)).collect();
-    let route = |i| RouteRecord { run: i as u16 + 1, meets: 0, count: MOST_CORNERS as u16, corners: stairs.clone() };
-    let routes: Vec<RouteRecord> = (0..MOST_RUNS).map(route).collect();
-    let (runs, total) = (MOST_RUNS as u16, (MOST_RUNS * MOST_CORNERS) as u16);
-    PlanBook { job: 7, runs, trench: 126, saved: 126 * 31, pits: 127, centre: 1, routes, total }.bytes()
+    let (runs, count) = (MOST_RUNS as u16, MOST_CORNERS as u16);
+    let route = |run| RouteRecord { run, meets: 0, count, centre: 1, corners: stairs.clone() };
+    let (routes, total) = ((1..=runs).map(route).collect(), runs * count);
+    let (kinds, pits) = (Kinds::Newer, 127);
+    PlanBook { kinds, job: 7, runs, trench: 126, saved: 126 * 31, pits, last: 1, routes, total }.bytes()
 }
 
 /// Times both readers on both books.
@@ -422,21 +528,20 @@ fn settle(contests: &mut [impl Contest], rounds: usize, limit: f64) -> bool {
     }
     let above: Vec<_> = contests.iter().filter(|contest| contest.ratio() > limit).collect();
     for contest in &above {
-        let ([proved, in_c, _], name, ratio) = (contest.times(), contest.name(), contest.ratio());
+        let ([proved, other, _], name, ratio) = (contest.times(), contest.name(), contest.ratio());
+        let rival = contest.rival();
         println!(
-            "speed: {name} takes {proved:.3} microseconds and C {in_c:.3}: {ratio:.2} times, and {limit} is the limit"
+            "speed: {name} takes {proved:.3} microseconds and {rival} {other:.3}: {ratio:.2} times, and {limit} is the limit"
         );
     }
     above.is_empty()
 }
 
-/// Whether planning, filling and tracing alone, and reading take at most so many times as long as C.
+/// Whether planning, filling and tracing alone, and reading take at most so many times as long as C, and leases no longer than their
+/// groups.
 fn limited(limit: f64, program: &str) -> bool {
-    let planning = |&runs: &usize| {
-        let (books, out) = (books(runs), vec![0; PLAN_ROOM]);
-        Planning { runs, books, out, quickest: [f64::INFINITY; 3] }
-    };
-    let mut all = [Sizes(RUNS.iter().map(planning).collect())];
+    let planning = |(size, books)| Planning { size, books, out: vec![0; PLAN_ROOM], quickest: [f64::INFINITY; 3] };
+    let mut all = [Sizes(sizes().into_iter().zip(jobs()).map(planning).collect())];
     let mut good = settle(&mut all, LIMIT_ROUNDS, limit);
     let (ratio, ratio_to_tuned) = (all[0].ratio(), all[0].ratio_to_tuned());
     let sizes = &mut all[0].0;
@@ -453,6 +558,10 @@ fn limited(limit: f64, program: &str) -> bool {
     };
     println!("speed, for 2 to 32 runs: trench_plan {ratio:.2} times C, {ratio_to_tuned:.2} times tuned C; {filling}");
     println!("speed, size by size: trench_plan {plain} C, {tuned} tuned C");
+    let mut leases = LEASES.map(Leases::of);
+    good &= settle(&mut leases, LIMIT_ROUNDS, LEASE_LIMIT);
+    let told = leases.iter().map(|lease| format!("{} runs {:.2} times its groups", lease.size, lease.ratio()));
+    println!("speed, for leases: {}", told.collect::<Vec<_>>().join(", "));
     let [alone, with_corners] = [false, true].map(|corners| {
         let mut contests = readings(corners);
         good &= settle(&mut contests, LIMIT_ROUNDS, limit);

@@ -181,7 +181,8 @@ fn plans_listed(program: &str, seed: u64, plans: u64) -> Report {
     report
 }
 
-/// Has a program fill and trace the tables of the first jobs of a seed: it must save what the independent planner saves.
+/// Has a program fill and trace the tables of all groups of the first jobs of a seed: together they must save what the independent
+/// planner saves.
 fn filled(program: &str, seed: u64, jobs: u64) -> Report {
     let mut report = Report::of(Subject::Jobs);
     for n in 0..jobs {
@@ -189,22 +190,25 @@ fn filled(program: &str, seed: u64, jobs: u64) -> Report {
         let due = match surveyed(&case.bytes) {
             Ok(survey) => {
                 *report.accepted.entry(survey.job.runs.len()).or_default() += 1;
-                // A job without runs has no centre, and so no table.
-                plan_surveyed(&survey).filter(|plan| plan.centre.is_some()).map(|plan| plan.saved)
+                *report.groups.entry(survey.graph.groups().len()).or_default() += 1;
+                plan_surveyed(&survey).map(|plan| (plan.groups, plan.saved))
             }
             Err(refused) => {
                 *report.refused.entry(refused.number).or_default() += 1;
                 None
             }
         };
-        let frame = frame_of(&case.bytes, 2);
-        let figure = frame.and_then(|frame| table_figure(program, &frame).unwrap_or_else(|e| panic!("{program}: {e}")));
-        let saved = figure.map(i64::from);
-        if saved != due {
-            report.faults.push(format!("seed {seed} job {n}: {}: {saved:?} is saved, and {due:?} is due", case.what));
+        let frames: Vec<_> = (0..).map_while(|group| frame_of(&case.bytes, group, 2)).collect();
+        let saved = |frame| table_figure(program, frame).unwrap_or_else(|e| panic!("{program}: {e}")).map(i64::from);
+        let saved: Option<i64> = frames.iter().map(|frame| saved(frame)).sum();
+        if saved.map(|saved| (frames.len(), saved)) != Some(due.unwrap_or((0, 0))) {
+            let (what, groups) = (case.what, frames.len());
+            report
+                .faults
+                .push(format!("seed {seed} job {n}: {what}: {groups} tables save {saved:?}, and {due:?} is due"));
         }
         report.books += 1;
-        report.calls += usize::from(frame.is_some());
+        report.calls += frames.len();
     }
     report
 }

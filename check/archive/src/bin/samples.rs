@@ -10,7 +10,7 @@ use trench_check::book::job_bytes;
 use trench_check::book_cases::{count, route};
 use trench_check::job::{Job, Point, Run};
 use trench_check::listing;
-use trench_check::plan_book::PlanBook;
+use trench_check::plan_book::{HEAD_LENGTH, Kinds, PlanBook};
 use trench_check::planner;
 use trench_check::read_back::listed;
 use trench_check::refusal::{PLAN_ROOM, verdict};
@@ -117,11 +117,22 @@ fn damaged() -> Vec<(&'static str, Vec<u8>)> {
     ]
 }
 
-/// The plan of document 01's listing, of which there is only one, damaged in each way that has a number and a place of its own.
-/// Its routes stand at 19, 62 and 87, its end at 112.
-fn damaged_plans() -> Vec<(&'static str, Vec<u8>)> {
+/// The plan of document 01's listing, of which there is only one.
+fn plan_7() -> PlanBook {
     let job = job_7();
-    let plan = PlanBook::of(&job, &planner::plan(&job).expect("a star"));
+    PlanBook::of(&job, &planner::plan(&job).expect("a star"))
+}
+
+/// The plan of document 01's listing, damaged in each way that has a number and a place of its own: in the older kinds, and where
+/// the kinds matter in both.
+fn damaged_plans() -> Vec<(&'static str, Vec<u8>)> {
+    [damaged_older(), mixed_kinds(), damaged_newer()].concat()
+}
+
+/// As it was written before there were groups. Its routes stand at 19, 62 and 87, its end at 112.
+fn damaged_older() -> Vec<(&'static str, Vec<u8>)> {
+    let job = job_7();
+    let plan = plan_7().as_older();
     let whole = plan.bytes();
     let with = |change: &dyn Fn(&mut PlanBook)| {
         let mut changed = plan.clone();
@@ -129,13 +140,12 @@ fn damaged_plans() -> Vec<(&'static str, Vec<u8>)> {
         changed.bytes()
     };
     let put_in = |place: usize, more: &[u8]| [&whole[..place], more, &whole[place..]].concat();
-    let stairs = |corners: i32| (0..corners).map(|k| Point::new((k + 1) / 2, k / 2)).collect();
     let one_too_many = |book: &mut PlanBook| {
-        book.routes = (1..=33).map(|number| route(number, 0, stairs(2))).collect();
+        book.routes = (1..=33).map(|number| route(number, 0, 0, stairs(2))).collect();
         count(book);
     };
     let too_long = |book: &mut PlanBook| {
-        book.routes[0] = route(1, 2, stairs(128));
+        book.routes[0] = route(1, 2, 0, stairs(128));
         count(book);
     };
     vec![
@@ -157,7 +167,53 @@ fn damaged_plans() -> Vec<(&'static str, Vec<u8>)> {
         ("13-back", with(&|book| book.routes[0].corners[2] = Point::new(0, 0))),
         ("14-runs", with(&|book| book.runs = 4)),
         ("14-corners", with(&|book| book.routes[1].count = 3)),
-        ("14-no-corner", with(&|book| book.routes[2] = route(3, 1, Vec::new()))),
+        ("14-no-corner", with(&|book| book.routes[2] = route(3, 1, 0, Vec::new()))),
         ("14-total", with(&|book| book.total = 9)),
+    ]
+}
+
+fn stairs(corners: i32) -> Vec<Point> {
+    (0..corners).map(|k| Point::new((k + 1) / 2, k / 2)).collect()
+}
+
+/// A book with records of both sets of kinds: those of one up to a route, and those of the other from there on.
+fn mixed_kinds() -> Vec<(&'static str, Vec<u8>)> {
+    let (newer, older) = (plan_7(), plan_7().as_older());
+    let mixed = |front: &PlanBook, back: &PlanBook, i: usize| {
+        [&front.bytes()[..front.places()[i]], &back.bytes()[back.places()[i]..]].concat()
+    };
+    let two_heads = [&newer.bytes()[..HEAD_LENGTH], &older.bytes()].concat();
+    vec![
+        ("12-newer-then-older", mixed(&newer, &older, 0)),
+        ("12-older-then-newer", mixed(&older, &newer, 0)),
+        ("12-newer-with-older-route", mixed(&newer, &older, 2)),
+        ("12-older-with-newer-route", mixed(&older, &newer, 2)),
+        ("12-both-heads", two_heads),
+    ]
+}
+
+/// In the newer kinds, in which its routes stand at 19, 64 and 91, its end at 118.
+fn damaged_newer() -> Vec<(&'static str, Vec<u8>)> {
+    let plan = plan_7();
+    let whole = plan.bytes();
+    let with = |change: &dyn Fn(&mut PlanBook)| {
+        let mut changed = plan.clone();
+        change(&mut changed);
+        changed.bytes()
+    };
+    let longest = |book: &mut PlanBook| {
+        book.routes = (1..=32).map(|number| route(number, 0, number, stairs(127))).collect();
+        count(book);
+    };
+    assert_eq!(plan.kinds, Kinds::Newer, "plans are written in the newer kinds");
+    vec![
+        ("12-newer-cut", whole[..24].to_vec()),
+        ("12-newer-no-end", whole[..118].to_vec()),
+        ("12-after-longest", [with(&longest), vec![0x5A]].concat()),
+        ("08-newer-corner", with(&|book| book.routes[1].corners[1].x = -1_000_001)),
+        ("13-newer-twice", with(&|book| book.routes[1].corners[1] = Point::new(0, 10))),
+        ("14-newer-runs", with(&|book| book.runs = 2)),
+        ("14-newer-corners", with(&|book| book.routes[1].count = 3)),
+        ("14-newer-total", with(&|book| book.total = 7)),
     ]
 }

@@ -73,7 +73,16 @@ pub fn text(bytes: &[u8]) -> String {
 
 /// The samples with this ending, in order.
 pub fn samples(ending: &str) -> Vec<PathBuf> {
-    let found = std::fs::read_dir(root().join("samples")).expect("the folder of samples");
+    samples_in("samples", ending)
+}
+
+/// The samples with this ending that were written before there were groups, in order.
+pub fn older_samples(ending: &str) -> Vec<PathBuf> {
+    samples_in("samples/older", ending)
+}
+
+fn samples_in(folder: &str, ending: &str) -> Vec<PathBuf> {
+    let found = std::fs::read_dir(root().join(folder)).expect("the folder of samples");
     let mut paths: Vec<PathBuf> = found.map(|entry| entry.expect("a file").path()).collect();
     paths.retain(|path| path.extension().is_some_and(|kind| kind == ending));
     paths.sort();

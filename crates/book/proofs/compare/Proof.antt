@@ -1,12 +1,11 @@
 -- `book::compare` meets its contract. The invariant: the counts from route i on decide what all counts decide.
-use mathlib.Core.Path.{sym, ap, ap₂, _∙_}
+use mathlib.Core.Path.{sym, ap, _∙_}
 use Prim.Native.Nat.{ℕ, _-_, _≤_}
 use native.Mathlib.Omega.{arith}
 use lib.ListN.{drop}
 use denote.Ref.{now}
 use borrow.Author.Needs.{needs}
 use Rattle.refusal.specs.declared.Refusal.the-variants.{Miscounted}
-use Rattle.plan.specs.declared.Head.{Head}
 use Rattle.records.specs.Records.{recordOf}
 use Rattle.book.specs.Parse.{refused}
 use Rattle.book.specs.Reading.{readingOf}
@@ -30,14 +29,17 @@ use Rattle.book.proofs.compare.Statement.{statement}
 use Rattle.book.proofs.compare.Tie as tie
 
 abbrev Inv-loop : tie.InvT-loop
-Inv-loop book head shape n i₀ i = (i ≤ n) × ((h : Head) (w : WholeBook book shape h) → Comparing w i)
+Inv-loop book head shape n size i₀ i = (i ≤ n) × ((w : WholeBook book shape head) → Comparing w i)
 
 abbrev μ-loop : tie.MeasureT-loop
-μ-loop book head shape n i₀ i = n - i
+μ-loop book head shape n size i₀ i = n - i
 
 -- the book that is whole, from where the function starts
 whole : (c : tie.Start Inv-loop μ-loop) → WholeBook (now (c .args .book)) (c .args .t3) (c .args .head)
 whole c = whole-book (now (c .args .book)) (c .args .t3) (c .args .head) (c .pre)
+
+route-size-requires : tie.Need-route-size-requires Inv-loop μ-loop
+route-size-requires c κs = search needs
 
 wide-requires : tie.Need-wide-requires Inv-loop μ-loop
 wide-requires c κs = search needs
@@ -47,28 +49,28 @@ refuse-requires c κs = search needs
 
 returns : tie.Need-returns Inv-loop μ-loop
 returns c =
-    c .refuse .ensures ∙ runs-wrong (whole (c .before .before .before .before)) (λ z. c .before .if1 .taken (c .before .before .wide .ensures .0 ∙ z))
+    c .refuse .ensures ∙ runs-wrong (whole (c .before .before .before .before .before)) (λ z. c .before .if1 .taken (c .before .before .wide .ensures .0 ∙ z))
 
 loop-holds : tie.Need-loop-holds Inv-loop μ-loop
-loop-holds c = (omega arith, λ h w. comparing-start w)
+loop-holds c = (omega arith, λ w. comparing-start w)
 
 mul-wide : tie.Need-mul-wide Inv-loop μ-loop
-mul-wide c = record { fits = omega (arith, small (whole (c .before .before .before .before .before)) _ (c .loop-test .taken)) }
+mul-wide c = record { fits = omega (arith, small (whole (c .before .before .before .before .before .before)) _ (c .loop-test .taken)) }
 
 element-copy-out-wide : tie.Need-element-copy-out-wide Inv-loop μ-loop
-element-copy-out-wide c = omega (arith, small (whole (c .before .before .before .before .before)) _ (c .loop-test .taken))
+element-copy-out-wide c = omega (arith, small (whole (c .before .before .before .before .before .before)) _ (c .loop-test .taken))
 
 wide-requires-2 : tie.Need-wide-requires-2 Inv-loop μ-loop
 wide-requires-2 c κs = search needs
 
 add-wide : tie.Need-add-wide Inv-loop μ-loop
-add-wide c = record { fits = omega (arith, small (whole (c .before .before .before .before .before .before .before)) _ (c .before .before .loop-test .taken)) }
+add-wide c = record { fits = omega (arith, small (whole (c .before .before .before .before .before .before .before .before)) _ (c .before .before .loop-test .taken)) }
 
 mul-wide-2 : tie.Need-mul-wide-2 Inv-loop μ-loop
-mul-wide-2 c = record { fits = omega (arith, small (whole (c .before .before .before .before .before .before .before)) _ (c .before .before .loop-test .taken)) }
+mul-wide-2 c = record { fits = omega (arith, small (whole (c .before .before .before .before .before .before .before .before)) _ (c .before .before .loop-test .taken)) }
 
 element-copy-out-wide-2 : tie.Need-element-copy-out-wide-2 Inv-loop μ-loop
-element-copy-out-wide-2 c = omega (arith, small (whole (c .before .before .before .before .before .before .before)) _ (c .before .before .loop-test .taken))
+element-copy-out-wide-2 c = omega (arith, small (whole (c .before .before .before .before .before .before .before .before)) _ (c .before .before .loop-test .taken))
 
 wide-requires-3 : tie.Need-wide-requires-3 Inv-loop μ-loop
 wide-requires-3 c κs = search needs
@@ -80,93 +82,87 @@ wide-requires-4 : tie.Need-wide-requires-4 Inv-loop μ-loop
 wide-requires-4 c κs = search needs
 
 add-if2 : tie.Need-add-if2 Inv-loop μ-loop
-add-if2 c = record { fits = omega (arith, c .before .before .before .before .wide2 .ensures .1, c .wide4 .ensures .1) }
+add-if2 c = record { fits = omega (arith, c .before .before .before .before .wide2 .ensures .1, c .wide4 .ensures .1, c .before .before .before .before .before .before .before .before .before .before .route-size .ensures .2) }
 
 add-if2-2 : tie.Need-add-if2-2 Inv-loop μ-loop
-add-if2-2 c = record { fits = omega (arith, c .before .before .before .before .wide2 .ensures .1, c .wide4 .ensures .1) }
+add-if2-2 c = record { fits = omega (arith, c .before .before .before .before .wide2 .ensures .1, c .wide4 .ensures .1, c .before .before .before .before .before .before .before .before .before .before .route-size .ensures .2) }
 
 mul-if2 : tie.Need-mul-if2 Inv-loop μ-loop
-mul-if2 c = record { fits = omega (arith, c .before .before .before .before .wide2 .ensures .1, c .wide4 .ensures .1) }
+mul-if2 c = record { fits = omega (arith, c .before .before .before .before .wide2 .ensures .1, c .wide4 .ensures .1, c .before .before .before .before .before .before .before .before .before .before .route-size .ensures .2) }
 
 add-if2-3 : tie.Need-add-if2-3 Inv-loop μ-loop
-add-if2-3 c = record { fits = omega (arith, c .before .before .before .before .wide2 .ensures .1, c .wide4 .ensures .1) }
+add-if2-3 c = record { fits = omega (arith, c .before .before .before .before .wide2 .ensures .1, c .wide4 .ensures .1, c .before .before .before .before .before .before .before .before .before .before .route-size .ensures .2) }
 
 refuse-requires-2 : tie.Need-refuse-requires-2 Inv-loop μ-loop
 refuse-requires-2 c κs = search needs
 
 returns-2 : tie.Need-returns-2 Inv-loop μ-loop
 returns-2 c =
-    let w = (whole (c .before .before .before .before .before .before .before .before .before .before .before .before .before)) in
-    let book = (now (c .before .before .before .before .before .before .before .before .before .before .before .before .before .args .book)) in
+    let w = whole (c .before .before .before .before .before .before .before .before .before .before .before .before .before .before) in
+    let book = now (c .before .before .before .before .before .before .before .before .before .before .before .before .before .before .args .book) in
+    let size = c .before .before .before .before .before .before .before .before .before .before .before .before .route-size .ensures .0 in
     let at = c .before .before .before .before .before .before .wide2 .ensures .0 in
     let end = c .before .before .before .before .wide3 .ensures .0 in
     let said = c .before .before .wide4 .ensures .0 in
     c .refuse2 .ensures ∙ ap (λ (k : ℕ). readingOf (refused (Miscounted k))) at
     ∙ compared-wrong w _ (c .before .before .before .before .before .before .before .before .loop-test .taken) _ (c .before .before .before .said-at .ensures ∙ ap (λ (k : ℕ). saidOf (recordOf (drop k book))) at)
-    (ap₂ (λ (p q : ℕ). byPlaces p q (c .before .before .before .said-at .result)) (sym at) (sym end) ∙ ap (λ (k : ℕ). byPlaces (c .before .before .before .before .before .before .wide2 .result) (c .before .before .before .before .wide3 .result) k) (sym said) ∙ c .before .if2 .taken) (sym (c .before .before .before .before .before .before .before .before .before .before .before .wide .ensures .0) ∙ c .before .before .before .before .before .before .before .before .before .before .if1 .left) (c .before .before .before .before .before .before .before .before .before .loop .inv .1 _ w)
+    ((λ k. byPlaces (sym size k) (sym at k) (sym end k) (sym said k)) ∙ c .before .if2 .taken)
+    (sym (c .before .before .before .before .before .before .before .before .before .before .before .wide .ensures .0) ∙ c .before .before .before .before .before .before .before .before .before .before .if1 .left) (c .before .before .before .before .before .before .before .before .before .loop .inv .1 w)
 
 add-i : tie.Need-add-i Inv-loop μ-loop
-add-i c = record { fits = omega (arith, small (whole (c .before .before .before .before .before .before .before .before .before .before .before .before)) _ (c .before .before .before .before .before .before .before .loop-test .taken)) }
+add-i c = record { fits = omega (arith, small (whole (c .before .before .before .before .before .before .before .before .before .before .before .before .before)) _ (c .before .before .before .before .before .before .before .loop-test .taken)) }
 
 loop-less : tie.Need-loop-less Inv-loop μ-loop
 loop-less c = omega (arith, c .before .before .before .before .before .before .before .loop-test .taken)
 
 loop-again : tie.Need-loop-again Inv-loop μ-loop
 loop-again c =
-    let book = (now (c .before .before .before .before .before .before .before .before .before .before .before .before .args .book)) in
+    let book = now (c .before .before .before .before .before .before .before .before .before .before .before .before .before .args .book) in
+    let size = c .before .before .before .before .before .before .before .before .before .before .before .route-size .ensures .0 in
     let at = c .before .before .before .before .before .wide2 .ensures .0 in
     let end = c .before .before .before .wide3 .ensures .0 in
     let said = c .before .wide4 .ensures .0 in (
       omega (arith, c .before .before .before .before .before .before .before .loop-test .taken),
-      λ h w. compared-on w _ (c .before .before .before .before .before .before .before .loop-test .taken) _ (c .before .before .said-at .ensures ∙ ap (λ (k : ℕ). saidOf (recordOf (drop k book))) at)
-          (ap₂ (λ (p q : ℕ). byPlaces p q (c .before .before .said-at .result)) (sym at) (sym end) ∙ ap (λ (k : ℕ). byPlaces (c .before .before .before .before .before .wide2 .result) (c .before .before .before .wide3 .result) k) (sym said) ∙ c .if2 .left) (c .before .before .before .before .before .before .before .before .loop .inv .1 h w),
+      λ w. compared-on w _ (c .before .before .before .before .before .before .before .loop-test .taken) _ (c .before .before .said-at .ensures ∙ ap (λ (k : ℕ). saidOf (recordOf (drop k book))) at)
+          ((λ k. byPlaces (sym size k) (sym at k) (sym end k) (sym said k)) ∙ c .if2 .left) (c .before .before .before .before .before .before .before .before .loop .inv .1 w),
     )
 
 wide-requires-5 : tie.Need-wide-requires-5 Inv-loop μ-loop
 wide-requires-5 c κs = search needs
 
 mul-wide-3 : tie.Need-mul-wide-3 Inv-loop μ-loop
-mul-wide-3 c = record { fits = omega (arith, few-routes (whole (c .before .before .before .before .before .before))) }
+mul-wide-3 c = record { fits = omega (arith, few-routes (whole (c .before .before .before .before .before .before .before))) }
 
 element-copy-out-wide-3 : tie.Need-element-copy-out-wide-3 Inv-loop μ-loop
-element-copy-out-wide-3 c = omega (arith, few-routes (whole (c .before .before .before .before .before .before)))
+element-copy-out-wide-3 c = omega (arith, few-routes (whole (c .before .before .before .before .before .before .before)))
 
 wide-requires-6 : tie.Need-wide-requires-6 Inv-loop μ-loop
 wide-requires-6 c κs = search needs
 
-mul-if3 : tie.Need-mul-if3 Inv-loop μ-loop
-mul-if3 c = record { fits = omega (arith, few-routes (whole (c .before .before .before .before .before .before .before .before)), c .before .before .wide5 .ensures .1) }
-
-add-if3 : tie.Need-add-if3 Inv-loop μ-loop
-add-if3 c = record { fits = omega (arith, few-routes (whole (c .before .before .before .before .before .before .before .before)), c .before .before .wide5 .ensures .1) }
-
-mul-if3-2 : tie.Need-mul-if3-2 Inv-loop μ-loop
-mul-if3-2 c = record { fits = omega (arith, few-routes (whole (c .before .before .before .before .before .before .before .before)), c .before .before .wide5 .ensures .1) }
-
-add-if3-2 : tie.Need-add-if3-2 Inv-loop μ-loop
-add-if3-2 c = record { fits = omega (arith, few-routes (whole (c .before .before .before .before .before .before .before .before)), c .before .before .wide5 .ensures .1) }
+end-of-requires : tie.Need-end-of-requires Inv-loop μ-loop
+end-of-requires c κs = (few-routes (whole (c .before .before .before .before .before .before .before .before .before)), c .before .before .wide5 .ensures .1)
 
 refuse-requires-3 : tie.Need-refuse-requires-3 Inv-loop μ-loop
 refuse-requires-3 c κs = search needs
 
 returns-3 : tie.Need-returns-3 Inv-loop μ-loop
 returns-3 c =
-    let w = (whole (c .before .before .before .before .before .before .before .before .before .before)) in
-    let total = c .before .before .before .before .wide5 .ensures .0 in
-    let end = c .before .before .wide6 .ensures .0 in
-    let runs = sym (c .before .before .before .before .before .before .before .before .wide .ensures .0) ∙ c .before .before .before .before .before .before .before .if1 .left in
-    let all = comparing-all w _ (c .before .before .before .before .before .before .loop .inv .0) (c .before .before .before .before .before .loop-test .left) (c .before .before .before .before .before .before .loop .inv .1 _ w) in
+    let w = whole (c .before .before .before .before .before .before .before .before .before .before .before .before) in
+    let total = c .before .before .before .before .before .wide5 .ensures .0 in
+    let end = c .before .before .before .wide6 .ensures .0 in
+    let runs = sym (c .before .before .before .before .before .before .before .before .before .wide .ensures .0) ∙ c .before .before .before .before .before .before .before .before .if1 .left in
+    let all = comparing-all w _ (c .before .before .before .before .before .before .before .loop .inv .0) (c .before .before .before .before .before .before .loop-test .left) (c .before .before .before .before .before .before .before .loop .inv .1 w) in
     c .refuse3 .ensures ∙ ap (λ (k : ℕ). readingOf (refused (Miscounted k))) end
-    ∙ total-wrong w runs all (λ z. c .before .if3 .taken (omega (arith, z, total, end)))
+    ∙ total-wrong w runs all (λ z. c .before .if3 .taken (omega (arith, z, total, end, c .before .before .end-of .ensures)))
 
 returns-4 : tie.Need-returns-4 Inv-loop μ-loop
 returns-4 c =
-    let w = (whole (c .before .before .before .before .before .before .before .before .before .before)) in
-    let total = c .before .before .before .before .wide5 .ensures .0 in
-    let end = c .before .before .wide6 .ensures .0 in
-    let runs = sym (c .before .before .before .before .before .before .before .before .wide .ensures .0) ∙ c .before .before .before .before .before .before .before .if1 .left in
-    let all = comparing-all w _ (c .before .before .before .before .before .before .loop .inv .0) (c .before .before .before .before .before .loop-test .left) (c .before .before .before .before .before .before .loop .inv .1 _ w) in
-    all-right w runs all (omega (arith, c .before .if3 .left, total, end))
+    let w = whole (c .before .before .before .before .before .before .before .before .before .before .before .before) in
+    let total = c .before .before .before .before .before .wide5 .ensures .0 in
+    let end = c .before .before .before .wide6 .ensures .0 in
+    let runs = sym (c .before .before .before .before .before .before .before .before .before .wide .ensures .0) ∙ c .before .before .before .before .before .before .before .before .if1 .left in
+    let all = comparing-all w _ (c .before .before .before .before .before .before .before .loop .inv .0) (c .before .before .before .before .before .before .loop-test .left) (c .before .before .before .before .before .before .before .loop .inv .1 w) in
+    all-right w runs all (omega (arith, c .before .if3 .left, total, end, c .before .before .end-of .ensures))
 
 pub compare-spec : {M : Type 1} → statement M
 compare-spec =
@@ -174,6 +170,7 @@ compare-spec =
     (tie.spec
     Inv-loop
     μ-loop
+    route-size-requires
     wide-requires
     refuse-requires
     returns
@@ -200,10 +197,7 @@ compare-spec =
     mul-wide-3
     element-copy-out-wide-3
     wide-requires-6
-    mul-if3
-    add-if3
-    mul-if3-2
-    add-if3-2
+    end-of-requires
     refuse-requires-3
     returns-3
     returns-4)

@@ -6,10 +6,10 @@ use Rattle.book_vectors.proofs.print_routes.Statement.{statement}
 use Rattle.book_vectors.proofs.print_routes.Tie as tie
 
 abbrev Inv-loop : tie.InvT-loop
-Inv-loop book places i₀ i = Unit {0}
+Inv-loop book places grouped i₀ i = Unit {0}
 
 abbrev μ-loop : tie.MeasureT-loop
-μ-loop book places i₀ i = length book - i
+μ-loop book places grouped i₀ i = length book - i
 
 loop-holds : tie.Need-loop-holds Inv-loop μ-loop
 loop-holds c = search needs

@@ -4,7 +4,7 @@ use mathlib.Core.Bool.{Bool}
 use Prim.Native.Nat.{ℕ, _≤_, _<_, _-_}
 use native.Mathlib.Numerals.{add-one}
 use native.Mathlib.Omega.{arith}
-use Rattle.intersection.specs.Star.{neighbourSets}
+use Rattle.intersection.specs.Centres.{neighbourSets}
 use Rattle.intersection.specs.Steps.{boxAt, partSets, Tells}
 use Rattle.intersection.proofs.Meetings.{part-start, part-end}
 use Rattle.intersection.proofs.compare_all.Statement.{statement}

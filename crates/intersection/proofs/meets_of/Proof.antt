@@ -2,7 +2,7 @@
 use native.Mathlib.Omega.{arith}
 use lib.ListN.{getD}
 use Rattle.network.specs.Graph.{degree}
-use Rattle.grid.proofs.Places.{count-le}
+use Rattle.network.proofs.Sums.{count-le}
 use Rattle.intersection.specs.Sets.{has}
 use borrow.Author.Needs.{needs}
 use Rattle.intersection.proofs.meets_of.Statement.{statement}

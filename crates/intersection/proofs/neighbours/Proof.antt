@@ -7,7 +7,7 @@ use borrow.Author.Needs.{needs}
 use Rattle.network.specs.Hanan.{hanan}
 use Rattle.network.proofs.Meeting.{meets-self}
 use Rattle.grid.specs.Runs.{runsHeld}
-use Rattle.intersection.specs.Star.{meetsIn, neighbourSets}
+use Rattle.intersection.specs.Centres.{meetsIn, neighbourSets}
 use Rattle.intersection.proofs.Meetings.{told-meets}
 use Rattle.intersection.proofs.neighbours.Statement.{statement}
 use Rattle.intersection.proofs.neighbours.Tie as tie

@@ -17,6 +17,9 @@ loop-holds c = omega arith
 meets-of-requires : tie.Need-meets-of-requires Inv-loop μ-loop
 meets-of-requires c κs = search needs
 
+cast-print-figure : tie.Need-cast-print-figure Inv-loop μ-loop
+cast-print-figure c = search needs
+
 print-figure-requires : tie.Need-print-figure-requires Inv-loop μ-loop
 print-figure-requires c κs = search needs
 
@@ -40,6 +43,7 @@ print-meets-spec =
     μ-loop
     loop-holds
     meets-of-requires
+    cast-print-figure
     print-figure-requires
     add-i
     loop-less

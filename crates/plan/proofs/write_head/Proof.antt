@@ -41,19 +41,20 @@ returns c =
     let c2 = c3 .before .before .before .before in
     let c1 = c2 .before .before .before .before in
     let c0 = c1 .before .before .before .before in
-    let a = c0 .before .before .before .args in
+    let s = c0 .before .before .before in
+    let a = s .args in
     let xs = a .out .now in
     let h = a .head in
-    let b1 : List ℕ = 0x50 ∷ bytes4 (h .job) in
+    let b1 : List ℕ = 0x51 ∷ bytes4 (h .job) in
     let b2 = b1 ++ bytes2 (h .runs) in
     let b3 = b2 ++ bytes4 (h .trench) in
     let b4 = b3 ++ bytes4 (h .saved) in
-    let e1 = next (0x50 ∷ []) (bytes4 (h .job)) xs (c0 .put1 .ensures) (c1 .put4 .ensures) in
+    let e1 = next (0x51 ∷ []) (bytes4 (h .job)) xs (c0 .put1 .ensures) (c1 .put4 .ensures) in
     let e2 = next b1 (bytes2 (h .runs)) xs e1 (c2 .put2 .ensures) in
     let e3 = next b2 (bytes4 (h .trench)) xs e2 (c3 .put42 .ensures) in
     let e4 = next b3 (bytes4 (h .saved)) xs e3 (c4 .put43 .ensures) in
     let e5 = next b4 (bytes2 (h .pits)) xs e4 (c5 .put22 .ensures) in
-    record { bytes = next (b4 ++ bytes2 (h .pits)) (bytes2 (h .centre)) xs e5 (c6 .put23 .ensures); size = refl }
+    rw (s .pre .0) (record { bytes = next (b4 ++ bytes2 (h .pits)) (bytes2 (h .last)) xs e5 (c6 .put23 .ensures); size = refl })
 
 pub write-head-spec : {M : Type 1} → statement M
 write-head-spec =

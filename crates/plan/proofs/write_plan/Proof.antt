@@ -1,9 +1,11 @@
 -- `plan::write_plan` meets its contract: the runs stand behind the head, and the end behind both.
-use mathlib.Core.List.{_++_, flatMap, append-assoc}
+use mathlib.Core.Bool.{true}
+use mathlib.Core.List.{List, _++_, flatMap, append-assoc}
+use Prim.Native.Nat.{_+_, _≤_}
 use native.Mathlib.Omega.{arith}
-use lib.ListN.{take, length-take}
+use lib.ListN.{length, take, length-take}
 use Rattle.plan.specs.Records.{headRecord, endRecord}
-use Rattle.plan.specs.Plan.{entryBytes, totalCorners, bookBytes}
+use Rattle.plan.specs.Plan.{Entry, entryBytes, totalCorners, bookBytes}
 use Rattle.plan.specs.Writers.{entriesAt}
 use Rattle.fields.proofs.Over.{wrote-next}
 use Rattle.plan.proofs.Length.{book-room}
@@ -12,31 +14,41 @@ use borrow.Author.Needs.{needs}
 use Rattle.plan.proofs.write_plan.Statement.{statement}
 use Rattle.plan.proofs.write_plan.Tie as tie
 
+-- the entries of the runs
+abbrev entries : tie.Start → List Entry
+entries c =
+    let a = c .args in
+    entriesAt (a .columns .now) (a .rows .now) (a .numbers .now) (a .meets .now) (a .centres .now) (take (a .count) (a .routes))
+
+-- there is room for the head, the runs and the end
+room : (c : tie.Start) → 22 + length (flatMap (entryBytes true) (entries c)) ≤ length (c .args .out .now)
+room c = book-room (c .args .head) (entries c) _ (c .pre .0) (c .pre .3)
+
 write-head-requires : tie.Need-write-head-requires
-write-head-requires c κs = omega (arith, book-room _ _ _ (c .before .before .pre .2))
+write-head-requires c κs = (c .before .before .pre .0, omega (arith, room (c .before .before)))
 
 sub-write-runs : tie.Need-sub-write-runs
-sub-write-runs c = omega (arith, book-room _ _ _ (c .before .before .before .before .before .pre .2))
+sub-write-runs c = omega (arith, room (c .before .before .before .before .before))
 
 part-write-runs-start : tie.Need-part-write-runs-start
-part-write-runs-start c = omega (arith, book-room _ _ _ (c .before .before .before .before .before .pre .2))
+part-write-runs-start c = omega (arith, room (c .before .before .before .before .before))
 
 part-write-runs-end : tie.Need-part-write-runs-end
 part-write-runs-end c = search needs
 
 write-runs-requires : tie.Need-write-runs-requires
 write-runs-requires c κs =
-    let p = c .before .before .before .before .before .before .pre in
-    (p .0, p .1, omega (arith, book-room _ _ _ (p .2)))
+    let s = c .before .before .before .before .before .before in
+    (s .pre .1, s .pre .2, omega (arith, room s))
 
 add-at : tie.Need-add-at
-add-at c = omega (arith, book-room _ _ _ (c .before .before .before .before .before .before .before .before .before .before .pre .2))
+add-at c = omega (arith, room (c .before .before .before .before .before .before .before .before .before .before))
 
 sub-write-end : tie.Need-sub-write-end
-sub-write-end c = omega (arith, book-room _ _ _ (c .before .before .before .before .before .before .before .before .before .before .pre .2))
+sub-write-end c = omega (arith, room (c .before .before .before .before .before .before .before .before .before .before))
 
 part-write-end-start : tie.Need-part-write-end-start
-part-write-end-start c = omega (arith, book-room _ _ _ (c .before .before .before .before .before .before .before .before .before .before .pre .2))
+part-write-end-start c = omega (arith, room (c .before .before .before .before .before .before .before .before .before .before))
 
 part-write-end-end : tie.Need-part-write-end-end
 part-write-end-end c = search needs
@@ -45,10 +57,10 @@ cast-write-end : tie.Need-cast-write-end
 cast-write-end c = search needs
 
 write-end-requires : tie.Need-write-end-requires
-write-end-requires c κs = omega (arith, book-room _ _ _ (c .before .before .before .before .before .before .before .before .before .before .before .before .pre .2))
+write-end-requires c κs = omega (arith, room (c .before .before .before .before .before .before .before .before .before .before .before .before))
 
 add-result : tie.Need-add-result
-add-result c = omega (arith, book-room _ _ _ (c .before .before .before .before .before .before .before .before .before .before .before .before .before .before .before .pre .2))
+add-result c = omega (arith, room (c .before .before .before .before .before .before .before .before .before .before .before .before .before .before .before))
 
 same-length : tie.Need-same-length
 same-length c = search needs
@@ -61,14 +73,15 @@ returns c =
     let r = r′ .write-runs in
     let h′ = r′ .before .before .before .before in
     let h = h′ .write-head in
-    let a = h′ .before .before .before .args in
-    let p = h′ .before .before .before .pre in
-    let routes = take (a .count) (a .routes) in
-    let es = entriesAt (a .columns .now) (a .rows .now) (a .numbers .now) (a .meets .now) routes in
-    let most = written-most (a .columns .now) (a .rows .now) (a .numbers .now) (a .meets .now) (a .head) routes (omega (arith, length-take (a .count) (a .routes))) (p .1) in
-    let runs = flatMap entryBytes es in
+    let s = h′ .before .before .before in
+    let a = s .args in
+    let es = entries s in
+    let most = written-most (a .columns .now) (a .rows .now) (a .numbers .now) (a .meets .now) (a .centres .now) (a .head) (take (a .count) (a .routes))
+    (omega (arith, length-take (a .count) (a .routes))) (s .pre .2) in
+    let runs = flatMap (entryBytes (a .head .grouped)) es in
     let head = headRecord (a .head) in
-    let w = wrote-next head runs (a .out .now) (h .last .0) (r .last .0) (h .result) (r .result .bytes) (h .ensures .size) (h .ensures .bytes) (r .ensures .wrote) in
+    let w = wrote-next head runs (a .out .now) (h .last .0) (r .last .0) (h .result) (r .result .bytes) (h .ensures .size) (h .ensures .bytes)
+    (rw (s .pre .0) (r .ensures .wrote)) in
     let e = wrote-next (head ++ runs) (endRecord (totalCorners es)) (a .out .now) _ (k .last .0) _ (k .result) (w .size) (w .bytes) (rw (r .ensures .total) at (k .ensures)) in
     let f = rw (append-assoc head runs (endRecord (totalCorners es))) at e in
     (f, omega (arith, f .size))

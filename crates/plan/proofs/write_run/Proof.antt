@@ -1,5 +1,6 @@
 -- `plan::write_run` meets its contract: the corners stand behind the route record.
 use mathlib.Core.Path.{_≡_, sym, _∙_}
+use mathlib.Core.Bool.{true}
 use mathlib.Core.List.{map, flatMap}
 use native.Mathlib.Omega.{arith}
 use lib.ListN.{length, length-map}
@@ -44,7 +45,7 @@ returns c =
     let l = map (placed (a .columns .now) (a .rows .now)) (cornersOf (a .route)) in
     let e : a .corners ≡ length l = s .pre .1 ∙ sym (length-map (cornersOf (a .route)) (placed (a .columns .now) (a .rows .now))) in
     let r = rw e at (h .ensures) in (
-      wrote-next (routeRecord (a .number) (a .meets) (length l)) (flatMap cornerRecord l) (a .out .now) (h .last .0) (k .last .0) (h .result) (k .result)
+      wrote-next (routeRecord true (a .number) (a .meets) (length l) (a .centre)) (flatMap cornerRecord l) (a .out .now) (h .last .0) (k .last .0) (h .result) (k .result)
           (r .size) (r .bytes) (k .ensures .0),
       omega (arith, k .ensures .1, h .ensures .size),
     )

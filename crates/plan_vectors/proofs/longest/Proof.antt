@@ -6,10 +6,10 @@ use Rattle.plan_vectors.proofs.longest.Statement.{statement}
 use Rattle.plan_vectors.proofs.longest.Tie as tie
 
 abbrev Inv-loop : tie.InvT-loop
-Inv-loop columns rows numbers meets routes₀ other i₀ routes i = i ≤ 33
+Inv-loop columns rows numbers meets centres routes₀ other i₀ routes i = i ≤ 33
 
 abbrev μ-loop : tie.MeasureT-loop
-μ-loop columns rows numbers meets routes₀ other i₀ routes i = 33 - i
+μ-loop columns rows numbers meets centres routes₀ other i₀ routes i = 33 - i
 
 evenly-requires : tie.Need-evenly-requires Inv-loop μ-loop
 evenly-requires c κs = search needs

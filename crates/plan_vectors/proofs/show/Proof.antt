@@ -40,7 +40,7 @@ write-plan-requires c κs =
     let few : s .args .count ≤ 32 = omega (arith, t .before .before .if1 .left) in
     let short : length (take (s .args .count) (s .args .routes)) ≤ 32 = omega (arith, length-take (s .args .count) (s .args .routes)) in
     let a = t .before .all-on-grid .ensures (not-false _ (t .if2 .left)) in
-    (few, a, le-trans (written-most _ _ _ _ _ _ short a) (search needs))
+    (s .pre, few, a, le-trans (written-most _ _ _ _ _ _ _ short a) (search needs))
 
 slice-aggregate-print-plan : tie.Need-slice-aggregate-print-plan
 slice-aggregate-print-plan c = search needs
@@ -58,7 +58,7 @@ write-plan-requires-2 c κs =
     let few : s .args .count ≤ 32 = omega (arith, t .before .before .if1 .left) in
     let short : length (take (s .args .count) (s .args .routes)) ≤ 32 = omega (arith, length-take (s .args .count) (s .args .routes)) in
     let a = t .before .all-on-grid .ensures (not-false _ (t .if2 .left)) in
-    (few, a, le-trans (written-most _ _ _ _ _ _ short a) (search needs))
+    (s .pre, few, a, le-trans (written-most _ _ _ _ _ _ _ short a) (search needs))
 
 slice-aggregate-print-plan-2 : tie.Need-slice-aggregate-print-plan-2
 slice-aggregate-print-plan-2 c = search needs

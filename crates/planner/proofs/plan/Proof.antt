@@ -4,7 +4,8 @@ use denote.Ref.{now}
 use native.Mathlib.Nat.{le-trans}
 use borrow.Author.Needs.{needs}
 use Rattle.planner.proofs.Verdicts.{short-work, short-plan}
-use Rattle.planner.proofs.Stages.{words-most, still-words, then-cleared, all-kept, decided}
+use Rattle.laying.proofs.Laying.{words-most}
+use Rattle.planner.proofs.Stages.{still-words, then-cleared, all-kept, decided}
 use Rattle.planner.proofs.plan.Statement.{statement}
 use Rattle.planner.proofs.plan.Tie as tie
 

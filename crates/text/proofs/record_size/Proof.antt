@@ -1,4 +1,5 @@
 -- `text::record_size` meets its contract: each arm is a case of `recordSize`.
+use native.Mathlib.Omega.{arith}
 use borrow.Author.Needs.{needs}
 use Rattle.text.specs.Listing.{recordSize}
 use Rattle.text.proofs.record_size.Statement.{statement}
@@ -9,6 +10,9 @@ enum-known-found c = search needs
 
 enum-known-found-2 : tie.Need-enum-known-found-2
 enum-known-found-2 c = search needs
+
+route-size-requires : tie.Need-route-size-requires
+route-size-requires c κs = search needs
 
 enum-known-found-3 : tie.Need-enum-known-found-3
 enum-known-found-3 c = search needs
@@ -25,7 +29,8 @@ returns c = search needs
 
 returns-2 : tie.Need-returns-2
 unfolding recordSize
-returns-2 c = search needs
+returns-2 c =
+    rw (c .before .before .found2 .given .1) (record { size = c .route-size .ensures .0; some = omega (arith, c .route-size .ensures .1) })
 
 returns-3 : tie.Need-returns-3
 unfolding recordSize
@@ -45,6 +50,7 @@ record-size-spec =
     (tie.spec
     enum-known-found
     enum-known-found-2
+    route-size-requires
     enum-known-found-3
     enum-told
     enum-told-2

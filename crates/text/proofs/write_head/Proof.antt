@@ -1,7 +1,6 @@
 -- `text::write_head` meets its contract: each field stands behind the one before, and the figures behind all.
+use Rattle.text.proofs.Listed.{listed-next}
 use borrow.Author.Needs.{needs}
-use native.Mathlib.Omega.{arith}
-use Rattle.text.proofs.Listed.{listed-next, listed-room}
 use Rattle.text.proofs.write_head.Statement.{statement}
 use Rattle.text.proofs.write_head.Tie as tie
 
@@ -35,23 +34,20 @@ write-field-requires-2 c κs = search needs
 add-at : tie.Need-add-at
 add-at c = search needs
 
-sub-write-field-2 : tie.Need-sub-write-field-2
-sub-write-field-2 c = search needs
+sub-write-last : tie.Need-sub-write-last
+sub-write-last c = search needs
 
-part-write-field-start-2 : tie.Need-part-write-field-start-2
-part-write-field-start-2 c = search needs
+part-write-last-start : tie.Need-part-write-last-start
+part-write-last-start c = search needs
 
-part-write-field-end-2 : tie.Need-part-write-field-end-2
-part-write-field-end-2 c = search needs
+part-write-last-end : tie.Need-part-write-last-end
+part-write-last-end c = search needs
 
-slice-aggregate-write-field-3 : tie.Need-slice-aggregate-write-field-3
-slice-aggregate-write-field-3 c = search needs
+cast-write-last : tie.Need-cast-write-last
+cast-write-last c = search needs
 
-cast-write-field-3 : tie.Need-cast-write-field-3
-cast-write-field-3 c = search needs
-
-write-field-requires-3 : tie.Need-write-field-requires-3
-write-field-requires-3 c κs = search needs
+write-last-requires : tie.Need-write-last-requires
+write-last-requires c κs = search needs
 
 add-at-2 : tie.Need-add-at-2
 add-at-2 c = search needs
@@ -69,25 +65,17 @@ write-figures-requires : tie.Need-write-figures-requires
 write-figures-requires c κs = search needs
 
 add-result : tie.Need-add-result
-add-result c =
-    let c3 = c .before .before in
-    let c2 = c3 .before .before .before .before in
-    let c1 = c2 .before .before .before .before .before .before in
-    let c0 = c1 .before .before .before .before .before .before in
-    let w = listed-next _ _ _ _ _ _ _ (listed-next _ _ _ _ _ _ _ (c0 .write-field .ensures) (c1 .write-field2 .ensures)) (c2 .write-field3 .ensures) in
-    omega (arith, listed-room _ _ _ _ (listed-next _ _ _ _ _ _ _ w (c3 .write-figures .ensures)), c0 .before .before .before .before .before .good .0)
+add-result c = search needs
 
 same-length : tie.Need-same-length
 same-length c = search needs
 
 returns : tie.Need-returns
 returns c =
-    let c3 = c .before .before in
-    let c2 = c3 .before .before .before .before in
-    let c1 = c2 .before .before .before .before .before .before in
-    let c0 = c1 .before .before .before .before .before .before in
-    let w = listed-next _ _ _ _ _ _ _ (listed-next _ _ _ _ _ _ _ (c0 .write-field .ensures) (c1 .write-field2 .ensures)) (c2 .write-field3 .ensures) in
-    listed-next _ _ _ _ _ _ _ w (c3 .write-figures .ensures)
+    listed-next _ _ _ _ _ _ _
+    (listed-next _ _ _ _ _ _ _ (listed-next _ _ _ _ _ _ _ (c .before .before .before .before .before .before .before .before .before .before .before .before .before .before .before .before .before .write-field .ensures) (c .before .before .before .before .before .before .before .before .before .before .before .write-field2 .ensures))
+    (c .before .before .before .before .before .before .write-last .ensures))
+    (c .before .before .write-figures .ensures)
 
 pub write-head-spec : {M : Type 1} → statement M
 write-head-spec =
@@ -103,12 +91,11 @@ write-head-spec =
     cast-write-field-2
     write-field-requires-2
     add-at
-    sub-write-field-2
-    part-write-field-start-2
-    part-write-field-end-2
-    slice-aggregate-write-field-3
-    cast-write-field-3
-    write-field-requires-3
+    sub-write-last
+    part-write-last-start
+    part-write-last-end
+    cast-write-last
+    write-last-requires
     add-at-2
     sub-write-figures
     part-write-figures-start

@@ -1,14 +1,26 @@
--- `text::write_route` meets its contract: each field stands behind the one before, and the colon behind all.
-use borrow.Author.Needs.{needs}
+-- `text::write_route` meets its contract: each piece stands behind the one before.
 use Rattle.text.proofs.Listed.{listed-next}
+use borrow.Author.Needs.{needs}
 use Rattle.text.proofs.write_route.Statement.{statement}
 use Rattle.text.proofs.write_route.Tie as tie
 
-slice-aggregate-write-field : tie.Need-slice-aggregate-write-field
-slice-aggregate-write-field c = search needs
+write-run-requires : tie.Need-write-run-requires
+write-run-requires c κs = search needs
 
-write-field-requires : tie.Need-write-field-requires
-write-field-requires c κs = search needs
+sub-write-centre : tie.Need-sub-write-centre
+sub-write-centre c = search needs
+
+part-write-centre-start : tie.Need-part-write-centre-start
+part-write-centre-start c = search needs
+
+part-write-centre-end : tie.Need-part-write-centre-end
+part-write-centre-end c = search needs
+
+write-centre-requires : tie.Need-write-centre-requires
+write-centre-requires c κs = search needs
+
+add-at : tie.Need-add-at
+add-at c = search needs
 
 sub-write-field : tie.Need-sub-write-field
 sub-write-field c = search needs
@@ -19,29 +31,11 @@ part-write-field-start c = search needs
 part-write-field-end : tie.Need-part-write-field-end
 part-write-field-end c = search needs
 
-slice-aggregate-write-field-2 : tie.Need-slice-aggregate-write-field-2
-slice-aggregate-write-field-2 c = search needs
+slice-aggregate-write-field : tie.Need-slice-aggregate-write-field
+slice-aggregate-write-field c = search needs
 
-write-field-requires-2 : tie.Need-write-field-requires-2
-write-field-requires-2 c κs = search needs
-
-add-at : tie.Need-add-at
-add-at c = search needs
-
-sub-write-field-2 : tie.Need-sub-write-field-2
-sub-write-field-2 c = search needs
-
-part-write-field-start-2 : tie.Need-part-write-field-start-2
-part-write-field-start-2 c = search needs
-
-part-write-field-end-2 : tie.Need-part-write-field-end-2
-part-write-field-end-2 c = search needs
-
-slice-aggregate-write-field-3 : tie.Need-slice-aggregate-write-field-3
-slice-aggregate-write-field-3 c = search needs
-
-write-field-requires-3 : tie.Need-write-field-requires-3
-write-field-requires-3 c κs = search needs
+write-field-requires : tie.Need-write-field-requires
+write-field-requires c κs = search needs
 
 add-at-2 : tie.Need-add-at-2
 add-at-2 c = search needs
@@ -66,31 +60,26 @@ same-length c = search needs
 
 returns : tie.Need-returns
 returns c =
-    let c3 = c .before .before in
-    let c2 = c3 .before .before .before .before in
-    let c1 = c2 .before .before .before .before .before in
-    let c0 = c1 .before .before .before .before .before in
     listed-next _ _ _ _ _ _ _
-    (listed-next _ _ _ _ _ _ _ (listed-next _ _ _ _ _ _ _ (c0 .write-field .ensures) (c1 .write-field2 .ensures)) (c2 .write-field3 .ensures))
-    (c3 .write-byte .ensures)
+    (listed-next _ _ _ _ _ _ _ (listed-next _ _ _ _ _ _ _ (c .before .before .before .before .before .before .before .before .before .before .before .before .before .before .before .write-run .ensures) (c .before .before .before .before .before .before .before .before .before .before .before .write-centre .ensures))
+    (c .before .before .before .before .before .before .write-field .ensures))
+    (c .before .before .write-byte .ensures)
 
 pub write-route-spec : {M : Type 1} → statement M
 write-route-spec =
     tie.close
     (tie.spec
-    slice-aggregate-write-field
-    write-field-requires
+    write-run-requires
+    sub-write-centre
+    part-write-centre-start
+    part-write-centre-end
+    write-centre-requires
+    add-at
     sub-write-field
     part-write-field-start
     part-write-field-end
-    slice-aggregate-write-field-2
-    write-field-requires-2
-    add-at
-    sub-write-field-2
-    part-write-field-start-2
-    part-write-field-end-2
-    slice-aggregate-write-field-3
-    write-field-requires-3
+    slice-aggregate-write-field
+    write-field-requires
     add-at-2
     sub-write-byte
     part-write-byte-start

@@ -41,14 +41,21 @@ slice-write-figures-5 : tie.Need-slice-write-figures-5
 slice-write-figures-5 c = simp length-set (omega (arith, c .if1 .left))
 
 slice-write-figures-6 : tie.Need-slice-write-figures-6
-slice-write-figures-6 c = search needs
+slice-write-figures-6 c = simp length-set (omega (arith, c .if1 .left))
+
+kind-of-requires : tie.Need-kind-of-requires
+kind-of-requires c κs = search needs
+
+slice-write-figures-7 : tie.Need-slice-write-figures-7
+slice-write-figures-7 c = simp length-set (omega (arith, c .before .if1 .left))
 
 same-length : tie.Need-same-length
 same-length c = search needs
 
 returns-3 : tie.Need-returns-3
 returns-3 c =
-    rw (ap figureWords (sym (c .before .before .before .before .figures-of .ensures) ∙ c .before .before .found .given .1)) (filled-sets _ _ (c .if1 .left))
+    rw (ap figureWords (sym (c .before .before .before .before .before .figures-of .ensures) ∙ c .before .before .before .found .given .1), ← c .kind-of .ensures)
+    (filled-sets _ _ (c .before .if1 .left))
 
 pub trench-figures-spec : {M : Type 1} → statement M
 trench-figures-spec =
@@ -65,5 +72,7 @@ trench-figures-spec =
     slice-write-figures-4
     slice-write-figures-5
     slice-write-figures-6
+    kind-of-requires
+    slice-write-figures-7
     same-length
     returns-3)

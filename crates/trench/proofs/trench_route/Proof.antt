@@ -32,7 +32,10 @@ slice-write-route-2 : tie.Need-slice-write-route-2
 slice-write-route-2 c = simp length-set (omega (arith, c .if1 .left))
 
 slice-write-route-3 : tie.Need-slice-write-route-3
-slice-write-route-3 c = search needs
+slice-write-route-3 c = simp length-set (omega (arith, c .if1 .left))
+
+slice-write-route-4 : tie.Need-slice-write-route-4
+slice-write-route-4 c = search needs
 
 same-length : tie.Need-same-length
 same-length c = search needs
@@ -53,5 +56,6 @@ trench-route-spec =
     slice-write-route
     slice-write-route-2
     slice-write-route-3
+    slice-write-route-4
     same-length
     returns-3)

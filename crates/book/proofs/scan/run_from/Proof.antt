@@ -40,7 +40,7 @@ enum-known-number : tie.Need-enum-known-number Inv-loop μ-loop
 enum-known-number c = search needs
 
 returns : tie.Need-returns Inv-loop μ-loop
-returns c = record { passes = c .before .before .before .before .loop .inv .1; stops = (_, _, _, sym (c .before .before .before .step-at .ensures) ∙ c .before .number .given .1) }
+returns c = record { passes = c .before .before .before .before .loop .inv .1; stops = (_, _, _, _, sym (c .before .before .before .step-at .ensures) ∙ c .before .number .given .1) }
 
 enum-known-total : tie.Need-enum-known-total Inv-loop μ-loop
 enum-known-total c = search needs

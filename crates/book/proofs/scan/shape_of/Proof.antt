@@ -69,47 +69,50 @@ mul-places c =
     let r = c .before .before .before .before .run-from in
     let i = c .before .before .before .before .before .loop .inv in
     let f = run-so-far _ _ _ _ i (r .result) (r .ensures) in
-    let (number, meets, said, e) = run-route _ _ _ _ i (r .result) (r .ensures) (c .before .enum-told .given .1) in
-    record { fits = omega (arith, took-route _ _ _ _ f number meets said e .room) }
+    let (number, meets, said, centre, e) = run-route _ _ _ _ i (r .result) (r .ensures) (c .before .enum-told .given .1) in
+    record { fits = omega (arith, took-route _ _ _ _ f number meets said centre e .room) }
 
 array-write-places : tie.Need-array-write-places Inv-loop μ-loop
 array-write-places c =
     let r = c .before .before .before .before .run-from in
     let i = c .before .before .before .before .before .loop .inv in
     let f = run-so-far _ _ _ _ i (r .result) (r .ensures) in
-    let (number, meets, said, e) = run-route _ _ _ _ i (r .result) (r .ensures) (c .before .enum-told .given .1) in
-    omega (arith, took-route _ _ _ _ f number meets said e .room)
+    let (number, meets, said, centre, e) = run-route _ _ _ _ i (r .result) (r .ensures) (c .before .enum-told .given .1) in
+    omega (arith, took-route _ _ _ _ f number meets said centre e .room)
 
 begin-requires : tie.Need-begin-requires Inv-loop μ-loop
 begin-requires c κs =
     let r = c .before .before .before .before .run-from in
     let i = c .before .before .before .before .before .loop .inv in
     let f = run-so-far _ _ _ _ i (r .result) (r .ensures) in
-    let (number, meets, said, e) = run-route _ _ _ _ i (r .result) (r .ensures) (c .before .enum-told .given .1) in
-    took-route _ _ _ _ f number meets said e .room
+    let (number, meets, said, centre, e) = run-route _ _ _ _ i (r .result) (r .ensures) (c .before .enum-told .given .1) in
+    took-route _ _ _ _ f number meets said centre e .room
+
+route-size-requires : tie.Need-route-size-requires Inv-loop μ-loop
+route-size-requires c κs = search needs
 
 add-at : tie.Need-add-at Inv-loop μ-loop
 add-at c =
-    let r = c .before .before .before .before .before .before .run-from in
-    let i = c .before .before .before .before .before .before .before .loop .inv in
+    let r = c .before .before .before .before .before .before .before .run-from in
+    let i = c .before .before .before .before .before .before .before .before .loop .inv in
     let f = run-so-far _ _ _ _ i (r .result) (r .ensures) in
-    record { fits = omega (arith, near-fits _ _ _ _ f) }
+    record { fits = omega (arith, near-fits _ _ _ _ f, c .before .route-size .ensures .2) }
 
 loop-less : tie.Need-loop-less Inv-loop μ-loop
 loop-less c =
-    let r = c .before .before .before .before .before .before .run-from in
-    let i = c .before .before .before .before .before .before .before .loop .inv in
+    let r = c .before .before .before .before .before .before .before .run-from in
+    let i = c .before .before .before .before .before .before .before .before .loop .inv in
     let f = run-so-far _ _ _ _ i (r .result) (r .ensures) in
-    let (number, meets, said, e) = run-route _ _ _ _ i (r .result) (r .ensures) (c .before .before .before .enum-told .given .1) in
-    omega (arith, route-less _ _ _ _ f number meets said e, passes-on _ _ _ _ _ (r .ensures .passes))
+    let (number, meets, said, centre, e) = run-route _ _ _ _ i (r .result) (r .ensures) (c .before .before .before .before .enum-told .given .1) in
+    omega (arith, route-less _ _ _ _ f number meets said centre e, c .before .route-size .ensures .0, passes-on _ _ _ _ _ (r .ensures .passes))
 
 loop-again : tie.Need-loop-again Inv-loop μ-loop
 loop-again c =
-    let r = c .before .before .before .before .before .before .run-from in
-    let i = c .before .before .before .before .before .before .before .loop .inv in
+    let r = c .before .before .before .before .before .before .before .run-from in
+    let i = c .before .before .before .before .before .before .before .before .loop .inv in
     let f = run-so-far _ _ _ _ i (r .result) (r .ensures) in
-    let (number, meets, said, e) = run-route _ _ _ _ i (r .result) (r .ensures) (c .before .before .before .enum-told .given .1) in
-    rw (c .before .begin .ensures) (so-far-route _ _ _ _ f number meets said e)
+    let (number, meets, said, centre, e) = run-route _ _ _ _ i (r .result) (r .ensures) (c .before .before .before .before .enum-told .given .1) in
+    rw (c .before .before .begin .ensures, c .before .route-size .ensures .0) (so-far-route _ _ _ _ f number meets said centre e)
 
 enum-known-stop : tie.Need-enum-known-stop Inv-loop μ-loop
 enum-known-stop c = search needs
@@ -175,6 +178,7 @@ shape-of-spec =
     mul-places
     array-write-places
     begin-requires
+    route-size-requires
     add-at
     loop-less
     loop-again

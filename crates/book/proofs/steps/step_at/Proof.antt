@@ -1,14 +1,16 @@
 -- `book::steps::step_at` meets its contract: by the record that stands there.
 use mathlib.Core.Path.{_≡_, refl, sym, ap, _∙_}
+use mathlib.Core.Bool.{true, false, _||_}
 use Prim.Native.Nat.{_-_}
 use native.Mathlib.Omega.{arith}
+use lib.Dec.{leb}
 use lib.ListN.{length, drop, length-drop}
 use lib.Seq.{take-all}
 use denote.Ref.{now}
 use borrow.Author.Needs.{needs}
-use borrow.Author.Tests.{le-leb, lt-leb, lt-ltb, le-ltb}
+use borrow.Author.Tests.{lt-ltb, le-ltb}
 use Rattle.records.specs.Records.{recordOf}
-use Rattle.book.specs.Parse.{cornerStep, stepBy}
+use Rattle.book.specs.Parse.{cornerStep, mixed, stepBy}
 use Rattle.book.proofs.steps.step_at.Statement.{statement}
 use Rattle.book.proofs.steps.step_at.Tie as tie
 
@@ -37,9 +39,16 @@ enum-told c = search needs
 enum-known-found : tie.Need-enum-known-found
 enum-known-found c = search needs
 
+mixed-requires : tie.Need-mixed-requires
+mixed-requires c κs = search needs
+
 returns : tie.Need-returns
 unfolding stepBy
-returns c = rw (sym (there (c .before .before .before .before .before)) ∙ c .before .before .before .found .given .1) (simp (le-leb _ _ (c .if1 .taken)))
+returns c =
+    let w = c .before .before .before .before .before .before .before .before .before .args .w in
+    let g = c .before .before .before .before .found .given in
+    let e : (mixed (g .0 .0) (w .grouped) || leb 32 (w .routes)) ≡ true = ap (λ q. q || leb 32 (w .routes)) (sym (c .before .before .mixed .ensures)) ∙ c .if1 .taken in
+    rw (sym (there (c .before .before .before .before .before .before)) ∙ g .1) (simp e)
 
 enum-known-found-2 : tie.Need-enum-known-found-2
 enum-known-found-2 c = search needs
@@ -59,8 +68,8 @@ enum-known-found-3 c = search needs
 sub-if2 : tie.Need-sub-if2
 sub-if2 c = search needs
 
-add-t25 : tie.Need-add-t25
-add-t25 c = search needs
+add-t29 : tie.Need-add-t29
+add-t29 c = search needs
 
 returns-2 : tie.Need-returns-2
 unfolding stepBy
@@ -75,7 +84,11 @@ returns-3 c = rw (sym (there (c .before .before)) ∙ c .enum-told .given .1) re
 
 returns-4 : tie.Need-returns-4
 unfolding stepBy
-returns-4 c = rw (sym (there (c .before .before .before .before .before)) ∙ c .before .before .before .found .given .1) (simp (lt-leb _ _ (c .if1 .left)))
+returns-4 c =
+    let w = c .before .before .before .before .before .before .before .before .before .args .w in
+    let g = c .before .before .before .before .found .given in
+    let e : (mixed (g .0 .0) (w .grouped) || leb 32 (w .routes)) ≡ false = ap (λ q. q || leb 32 (w .routes)) (sym (c .before .before .mixed .ensures)) ∙ c .if1 .left in
+    rw (sym (there (c .before .before .before .before .before .before)) ∙ g .1) (simp e)
 
 returns-5 : tie.Need-returns-5
 unfolding stepBy
@@ -102,6 +115,7 @@ step-at-spec =
     first-record-requires
     enum-told
     enum-known-found
+    mixed-requires
     returns
     enum-known-found-2
     biased-requires
@@ -109,7 +123,7 @@ step-at-spec =
     corner-step-requires
     enum-known-found-3
     sub-if2
-    add-t25
+    add-t29
     returns-2
     enum-told-2
     returns-3

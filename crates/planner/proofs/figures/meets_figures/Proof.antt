@@ -5,7 +5,7 @@ use native.Mathlib.Omega.{arith}
 use Rattle.network.specs.Graph.{below, degree}
 use Rattle.grid.specs.Tables.{table, padded}
 use Rattle.grid.proofs.Tables.{table-more}
-use Rattle.intersection.specs.Star.{joinedIn}
+use Rattle.intersection.specs.Centres.{joinedIn}
 use Rattle.planner.proofs.figures.meets_figures.Statement.{statement}
 use Rattle.planner.proofs.figures.meets_figures.Tie as tie
 

@@ -3,7 +3,7 @@ use mathlib.Core.Path.{sym, ap, _∙_}
 use mathlib.Core.List.{List}
 use borrow.Author.Needs.{needs}
 use Rattle.network.specs.Plane.{Run}
-use Rattle.intersection.specs.Star.{meetsIn, neighbourSets}
+use Rattle.intersection.specs.Centres.{meetsIn, neighbourSets}
 use Rattle.planner.proofs.Held.{plane-held}
 use Rattle.planner.proofs.judge.neighbours_of.Statement.{statement}
 use Rattle.planner.proofs.judge.neighbours_of.Tie as tie

@@ -1,0 +1,2 @@
+-- What is known of a lease before and while its groups are laid. No demand mentions it.
+pub mod Lease

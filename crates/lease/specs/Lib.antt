@@ -1,0 +1,2 @@
+-- What is laid for each centre of a lease.
+pub mod Lease
