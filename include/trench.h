@@ -104,8 +104,8 @@ enum trench_refusal {
  *
  * Accepted: the plan book fills the first bytes of `out`, as many as the answer says; no later byte is changed. Every route
  * runs from its run's first point to its second along survey lines and is as long as their Manhattan distance; `trench` is
- * the length of the routes' union, and no routes for these runs on the survey lines have a shorter one, all groups together. A job
- * without runs has no group, and a plan of 22 bytes: a head whose figures are all 0, no route, and an end.
+ * the length of the routes' union, and no routes for these runs on the survey lines have a shorter one, all groups together.
+ * A job without runs has no group, and a plan of 22 bytes: a head whose figures are all 0, no route, and an end.
  * Refused: no byte of `out` is changed. The bytes of `job` are never changed.
  *
  * What the caller owes: `job` points to `job_len` bytes and `out` to `out_len` bytes; neither is null, even where its length
@@ -149,9 +149,9 @@ size_t trench_job_place(uint32_t number, const int32_t *runs, size_t runs_len, c
 /* ---- stored plans ----
  *
  * The functions below read a plan book. Each is lent the book alone, and some a few words for its answer. Every plan that
- * trench_plan wrote is read. Whose job it is, the store knows: trench, saved, pits, groups, run numbers, meets and centres are given
- * as they stand and not judged. A route may have one corner, where its run's two points coincide. Routes and corners are counted
- * from 0.
+ * trench_plan wrote is read. Whose job it is, the store knows: trench, saved, pits, groups, run numbers, meets and centres are
+ * given as they stand and not judged. A route may have one corner, where its run's two points coincide. Routes and corners are
+ * counted from 0.
  *
  *     uint32_t places[TRENCH_PLACES], route[TRENCH_ROUTE];
  *     int32_t corner[TRENCH_CORNER];
@@ -175,9 +175,9 @@ int32_t trench_read(const uint8_t *book, size_t book_len);
 /* The place of the refusal that trench_read tells; 0 where it tells none. */
 size_t trench_read_place(const uint8_t *book, size_t book_len);
 
-/* The figures of a plan's head: job number, runs, trench, saved, pits, groups, and last the head's kind, 0x51; of an older book the
- * centre's run number in place of groups, and 0x50. Writes them as 7 words and gives 7. A book that is refused, and fewer than 7
- * words, give 0, and nothing is written. */
+/* The figures of a plan's head: job number, runs, trench, saved, pits, groups, and last the head's kind, 0x51; of an older book
+ * the centre's run number in place of groups, and 0x50. Writes them as 7 words and gives 7. A book that is refused, and fewer
+ * than 7 words, give 0, and nothing is written. */
 size_t trench_figures(const uint8_t *book, size_t book_len, uint32_t *figures, size_t figures_len);
 
 /* Where the routes stand in a book: the place of each route's record in order, then that of the end record, then 0 for the
@@ -185,9 +185,9 @@ size_t trench_figures(const uint8_t *book, size_t book_len, uint32_t *figures, s
  * written. The book is read whole, once; with its places in hand the two functions below need not read it again. */
 size_t trench_places(const uint8_t *book, size_t book_len, uint32_t *places, size_t places_len);
 
-/* Route `i` of a plan, with the places that trench_places gave for the same book: run number, meets, number of corners, and the run
- * number of the group's centre, 0 in an older book. Writes them as 4 words and gives 4. An index past the last route, a book that
- * was refused, and fewer than 4 words give 0, and nothing is written.
+/* Route `i` of a plan, with the places that trench_places gave for the same book: run number, meets, number of corners, and the
+ * run number of the group's centre, 0 in an older book. Writes them as 4 words and gives 4. An index past the last route, a book
+ * that was refused, and fewer than 4 words give 0, and nothing is written.
  * Other places are no fault: where place i is below place i + 1, a place past the last being 0, and a whole route record of
  * either kind stands there in the book, its fields are given; else the answer is 0. */
 size_t trench_route(const uint8_t *book, size_t book_len, const uint32_t *places, size_t places_len, size_t i, uint32_t *route,

@@ -30,12 +30,15 @@ group-rises joined n i = rounds n
 module _ {joined : ℕ → ℕ → Bool} {n : ℕ} (graph : Graph joined n) where
   -- ---- equal or disjoint
 
+  -- a number is in its own group
   pub group-self : {i : ℕ} → i < n → Member i (groupOf joined n i)
   group-self h = chain-member graph h start
 
+  -- two numbers are each in the group of the other
   group-turn : {i j : ℕ} → i < n → j < n → Member j (groupOf joined n i) → Member i (groupOf joined n j)
   group-turn h k m = chain-member graph k (chain-back (graph .both-ways) (member-chain graph h m))
 
+  -- the group of a member is part of the group
   group-part : {i j k : ℕ} → i < n → j < n → Member j (groupOf joined n i) → Member k (groupOf joined n j) → Member k (groupOf joined n i)
   group-part h k m o = chain-member graph h (chain-on (member-chain graph h m) (member-chain graph k o))
 
@@ -53,6 +56,7 @@ module _ {joined : ℕ → ℕ → Bool} {n : ℕ} (graph : Graph joined n) wher
   pub joined-member : {i j : ℕ} → i < n → joined i j ≡ true → Member j (groupOf joined n i)
   joined-member h t = chain-member graph h (link start t)
 
+  -- so their groups are the same
   pub joined-group : {i j : ℕ} → i < n → joined i j ≡ true → groupOf joined n i ≡ groupOf joined n j
   joined-group h t = sym (group-same h (joined-member h t))
 
@@ -61,6 +65,7 @@ module _ {joined : ℕ → ℕ → Bool} {n : ℕ} (graph : Graph joined n) wher
   nonempty : {i : ℕ} → i < n → 0 < length (groupOf joined n i)
   nonempty {i} h = let (a, l, e) = member-index i (group-self h) in omega arith
 
+  -- the lowest is a member
   pub lowest-member : {i : ℕ} → i < n → Member (lowest joined n i) (groupOf joined n i)
   unfolding lowest
   lowest-member {i} h = index-member i (groupOf joined n i) 0 (nonempty h)
@@ -76,9 +81,11 @@ module _ {joined : ℕ → ℕ → Bool} {n : ℕ} (graph : Graph joined n) wher
       first [] a b h = absurd (omega arith)
       first (c ∷ l) a b h = refl
 
+  -- so it is below n
   pub lowest-below : {i : ℕ} → i < n → lowest joined n i < n
   lowest-below h = group-below graph h (lowest-member h)
 
+  -- a member has the same lowest
   pub lowest-same : {i j : ℕ} → i < n → Member j (groupOf joined n i) → lowest joined n j ≡ lowest joined n i
   lowest-same {i} {j} h m =
       let k = group-below graph h m in
@@ -87,10 +94,11 @@ module _ {joined : ℕ → ℕ → Bool} {n : ℕ} (graph : Graph joined n) wher
       let q = lowest-least k (subst (Member (lowest joined n i)) (sym e) (lowest-member h)) in
       omega arith
 
+  -- and the lowest is its own
   pub lowest-own : (i : ℕ) → i < n → lowest joined n (lowest joined n i) ≡ lowest joined n i
   lowest-own i h = lowest-same h (lowest-member h)
 
-  -- two numbers are in one group exactly if the lowest of their groups are the same
+  -- two numbers whose groups have the same lowest are in one group
   pub same-lowest : {i j : ℕ} → i < n → j < n → lowest joined n i ≡ lowest joined n j → groupOf joined n i ≡ groupOf joined n j
   same-lowest {i} {j} h k e = group-common h k (lowest-member h) (subst (λ r. Member r (groupOf joined n j)) (sym e) (lowest-member k))
 

@@ -49,21 +49,24 @@ head-of rep n r m =
     let (k, t) = selected-member (λ i. eqb (rep i) i) (below n) m in
     (below-member n r k, eqb-true (rep r) r t)
 
--- a number is in the part of what stands for it, and back
+-- r stands for what is in its part
 pub part-of : (rep : ℕ → ℕ) (n r k : ℕ) → Member k (partOf rep n r) → (k < n) × (rep k ≡ r)
 unfolding partOf
 part-of rep n r k m =
     let (i, t) = selected-member (λ k. eqb (rep k) r) (below n) m in
     (below-member n k i, eqb-true (rep k) r t)
 
+-- and what it stands for is in it
 pub of-part : (rep : ℕ → ℕ) (n r k : ℕ) → k < n → rep k ≡ r → Member k (partOf rep n r)
 unfolding partOf
 of-part rep n r k h e = member-selected (λ k. eqb (rep k) r) (below n) (member-below n k h) (eq-eqb (rep k) r e)
 
+-- a part rises
 pub part-rises : (rep : ℕ → ℕ) (n r : ℕ) → Rising (partOf rep n r)
 unfolding partOf
 part-rises rep n r = select-rises (λ k. eqb (rep k) r) (below n) (below-rises n)
 
+-- a sum over a part is one over all numbers, in which the others count 0
 pub part-sum : (rep : ℕ → ℕ) (n r : ℕ) (f : ℕ → ℕ) → sum f (partOf rep n r) ≡ sum (λ k. cond (eqb (rep k) r) (f k) 0) (below n)
 unfolding partOf
 part-sum rep n r f = sum-select (λ k. eqb (rep k) r) f (below n)
@@ -89,6 +92,7 @@ pub heads-more : (rep : ℕ → ℕ) (i a b : ℕ) → a ≡ length (heads rep i
 heads-more rep i a b e p =
     omega (arith, heads-next rep i (λ c. 1), sum-ones (heads rep (suc i)), sum-ones (heads rep i), ap (λ n. length (heads rep n)) (add-one i))
 
+-- 0 is 0 on either side
 pub cond-zero : (b : Bool) → cond {A = ℕ} b 0 0 ≡ 0
 cond-zero true = refl
 cond-zero false = refl

@@ -55,6 +55,7 @@ module _ {joined : ℕ → ℕ → Bool} {n : ℕ} where
       go [] e = let (c, m, s) = some in absurd (centres-none joined group e c (centre-true joined group c m s))
       go (c ∷ l) e = centres-first joined group (group-rises joined n i) c l e
 
+  -- and where every group has one, the test says so
   pub centre-stars : ((i : ℕ) → i < n → (c : ℕ) × IsCentre joined (groupOf joined n i) c) → allStars joined n ≡ true
   unfolding allStars inStar
   centre-stars h =
@@ -64,9 +65,11 @@ module _ {joined : ℕ → ℕ → Bool} {n : ℕ} where
 module _ {joined : ℕ → ℕ → Bool} {n : ℕ} (graph : Graph joined n) (t : allStars joined n ≡ true) where
   -- ---- each run and its centre
 
+  -- the centre is one of the group
   pub centre-member : {i : ℕ} → i < n → Member (centreOf joined n i) (groupOf joined n i)
   centre-member h = stars-centre t h .0 .member
 
+  -- so it is below n
   pub centre-below : {i : ℕ} → i < n → centreOf joined n i < n
   centre-below h = group-below graph h (centre-member h)
 

@@ -101,20 +101,8 @@ module _ (joined : ℕ → ℕ → Bool) (group : List ℕ) (rises : Rising grou
       least-select (isCentre joined group) group rises c (k .member) (true-centre joined group c k)
       (λ d l m. is-false (isCentre joined group d) (λ h. low d l (centre-true joined group d m h)))
 
--- the list of the centres is empty exactly if the group is no star
 module _ (joined : ℕ → ℕ → Bool) (group : List ℕ) where
-  -- where there is no first, no vertex is a centre
+  -- where there is no first, no vertex is a centre: the group is no star
   pub centres-none : centres joined group ≡ [] → (c : ℕ) → IsCentre joined group c → ⊥
   unfolding centres
   centres-none e c k = List·Memᴰ·not-nil (subst (Member c) e (member-selected (isCentre joined group) group (k .member) (true-centre joined group c k)))
-
-  -- and where no vertex is, there is none
-  pub none-centres : ((c : ℕ) → IsCentre joined group c → ⊥) → centres joined group ≡ []
-  unfolding centres
-  none-centres n = go (select (isCentre joined group) group) refl
-    where
-      go : (l : List ℕ) → select (isCentre joined group) group ≡ l → l ≡ []
-      go [] e = refl
-      go (c ∷ l) e =
-          let (m, h) = selected-member (isCentre joined group) group (subst (Member c) (sym e) (here refl)) in
-          absurd (n c (centre-true joined group c m h))

@@ -23,25 +23,22 @@ headBody grouped b =
       last = word2 b 16;
     }
 
--- the route in the 8 bytes of a body
-abbrev pub newerRoute : List ℕ → Record
-newerRoute b = rec.Route true (word2 b 0) (word2 b 2) (word2 b 4) (word2 b 6)
-
--- the older one in 6 bytes; it tells no centre, which is read as 0
-abbrev pub olderRoute : List ℕ → Record
-olderRoute b = rec.Route false (word2 b 0) (word2 b 2) (word2 b 4) 0
-
 -- a record whose body has so many bytes, unless the bytes end before that
 abbrev pub whole : ℕ → List ℕ → Record → Record
 whole size bytes r = cond (ltb (length bytes) size) rec.Other r
+
+-- a route, in the 8 bytes of a body, or an older one in 6; this one tells no centre, which is read as 0
+abbrev pub routeBody : (grouped : Bool) → List ℕ → Record
+routeBody true b = whole 8 b (rec.Route true (word2 b 0) (word2 b 2) (word2 b 4) (word2 b 6))
+routeBody false b = whole 6 b (rec.Route false (word2 b 0) (word2 b 2) (word2 b 4) 0)
 
 -- the record of a kind, its body being what the bytes begin with
 unfoldable pub decoded : (kind : ℕ) → List ℕ → Record
 decoded kind bytes =
     cond (eqb kind 0x51) (whole 18 bytes (rec.Head (headBody true bytes)))
     (cond (eqb kind 0x50) (whole 18 bytes (rec.Head (headBody false bytes)))
-    (cond (eqb kind 0x4F) (whole 8 bytes (newerRoute bytes))
-    (cond (eqb kind 0x4E) (whole 6 bytes (olderRoute bytes))
+    (cond (eqb kind 0x4F) (routeBody true bytes)
+    (cond (eqb kind 0x4E) (routeBody false bytes)
     (cond (eqb kind 0x43) (whole 8 bytes (rec.Corner (word4 bytes 0) (word4 bytes 4)))
     (cond (eqb kind 0x5A) (whole 2 bytes (rec.End (word2 bytes 0))) rec.Other)))))
 

@@ -1,9 +1,12 @@
 // The records of a plan book, read (document 01, "Plan book"; document 02, C-16).
 use plan::Head;
 ghost use mathlib.Core.Path.{_≡_};
+ghost use mathlib.Core.Bool.{true, cond};
 ghost use Prim.Native.Nat.{_≤_};
+ghost use lib.ListN.{length};
+ghost use Rattle.job.specs.Fields.{word2};
 ghost use Rattle.plan.specs.Records.{routeSize};
-ghost use Rattle.records.specs.Records.{headBody, newerRoute, olderRoute, whole, decoded, recordOf};
+ghost use Rattle.records.specs.Records.{headBody, routeBody, whole, decoded, recordOf};
 ghost use Rattle.records.specs.declared.Record.the-variants as rec;
 
 // What stands at a place of a plan book: a whole record, or what is none of the six kinds. A grouped route is of the newer kind; an older one has the centre
@@ -54,53 +57,43 @@ fn head_in(body: &[u8], grouped: bool) -> Record
     Record::Head(head)
 }
 
+// The group's centre in the body of a route; an older one tells none.
+fn centre_in(body: &[u8], grouped: bool) -> u32
+    requires { ⌜ (grouped ≡ true → 8 ≤ length (now body)) ⌝ }
+    ensures { λ r. ⌜ r ≡ cond grouped (word2 (now (body .entry)) 6) 0 ⌝ }
+{
+    if grouped {
+        return job::le16(body, 6);
+    }
+    0
+}
+
 // The route whose body the bytes begin with.
-fn newer_route(body: &[u8]) -> Record
-    ensures { λ r. ⌜ r ≡ whole 8 (now (body .entry)) (newerRoute (now (body .entry))) ⌝ }
+fn route_in(body: &[u8], grouped: bool) -> Record
+    ensures { λ r. ⌜ r ≡ routeBody grouped (now (body .entry)) ⌝ }
 {
-    if body.len() < 8 {
+    if (body.len() < 6) | (grouped & (body.len() < 8)) {
         return Record::Other;
     }
     Record::Route {
-        grouped: true,
+        grouped,
         number: job::le16(body, 0),
         meets: job::le16(body, 2),
         corners: job::le16(body, 4),
-        centre: job::le16(body, 6),
+        centre: centre_in(body, grouped),
     }
 }
 
-// The older route whose body the bytes begin with.
-fn older_route(body: &[u8]) -> Record
-    ensures { λ r. ⌜ r ≡ whole 6 (now (body .entry)) (olderRoute (now (body .entry))) ⌝ }
-{
-    if body.len() < 6 {
-        return Record::Other;
-    }
-    Record::Route {
-        grouped: false,
-        number: job::le16(body, 0),
-        meets: job::le16(body, 2),
-        corners: job::le16(body, 4),
-        centre: 0,
-    }
-}
-
-// The record of this kind whose body the bytes begin with.
+// The record of this kind whose body the bytes begin with. Heads of both kinds are one case, and so are routes: with a case for each, this would become a call for every
+// corner.
 fn decode(kind: u8, body: &[u8]) -> Record
     ensures { λ r. ⌜ r ≡ decoded kind (now (body .entry)) ⌝ }
 {
-    if kind == 0x51 {
-        return head_in(body, true);
+    if (kind == 0x51) | (kind == 0x50) {
+        return head_in(body, kind == 0x51);
     }
-    if kind == 0x50 {
-        return head_in(body, false);
-    }
-    if kind == 0x4F {
-        return newer_route(body);
-    }
-    if kind == 0x4E {
-        return older_route(body);
+    if (kind == 0x4F) | (kind == 0x4E) {
+        return route_in(body, kind == 0x4F);
     }
     if kind == 0x43 {
         if body.len() < 8 {
