@@ -30,7 +30,7 @@ use Rattle.table.proofs.Survey.{sides-centred, star-exact, star-figure, star-tr
 use Rattle.route.specs.declared.Route.{Route}
 use Rattle.route.specs.Route.{columnsOf, rowsOf, drawnOf, OnGrid}
 use Rattle.layout.specs.Points.{pointsOf}
-use Rattle.layout.specs.Laid.{unlaid, Layable, GroupLayable, GroupLaid}
+use Rattle.layout.specs.Laid.{unlaid, Layable}
 use Rattle.layout.proofs.Lists.{all-taken, mapped-at}
 use Rattle.layout.proofs.Fitting.{steps-lifted, steps-are, traced-layable}
 use Rattle.layout.proofs.Drawing.{laid-frame, laid-on-grid}
@@ -40,7 +40,7 @@ use Rattle.groups.proofs.Runs.{meets-graph}
 use Rattle.lease.proofs.Excess.{leaves-apart}
 use Rattle.lease.proofs.Theorem.{lease-best}
 use Rattle.laying.specs.declared.Layout.{Layout}
-use Rattle.laying.specs.Lease.{tableWords, LeaseSurveyed, Served, Progress, drawnBy, LaidOut}
+use Rattle.laying.specs.Lease.{tableWords, LeaseSurveyed, GroupLayable, GroupLaid, Served, Progress, drawnBy, LaidOut}
 
 -- more runs need more words
 pub words-more : (n m : ℕ) → n ≤ m → tableWords n ≤ tableWords m

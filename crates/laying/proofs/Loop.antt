@@ -1,5 +1,5 @@
 -- The loop over the centres: nothing is laid at first, a run that is not its own centre is passed over, and a centre adds its group.
--- What is laid for a group stays as long as the routes of its runs do.
+-- What is laid for a group stays as long as the routes of its runs do. The loop in it over the runs likewise: a run of another group is passed over.
 use mathlib.Core.Path.{_≡_, refl, sym, ap, ap₂, _∙_, subst}
 use mathlib.Core.Logic.{_⊎_, inl, inr}
 use mathlib.Core.Bool.{cond}
@@ -9,19 +9,24 @@ use native.Mathlib.Nat.{eq-or-lt-of-le, add-zero}
 use native.Mathlib.Numerals.{add-one}
 use native.Mathlib.Omega.{arith}
 use lib.Dec.{eqb}
+use borrow.Author.Count.{below-more}
 use borrow.Author.Tests.{eq-eqb, ne-eqb}
-use lib.ListN.{length, getD}
+use lib.ListN.{length, getD, set}
+use lib.Seq.{getD-set-other}
 use Rattle.network.specs.Lists.{sum}
 use Rattle.network.specs.Plane.{Run}
 use Rattle.network.proofs.Sums.{sum-cong}
+use Rattle.sharing.specs.Trace.{Move}
 use Rattle.table.specs.declared.side.Side.{Side}
 use Rattle.table.specs.Rule.{Beyond}
+use Rattle.table.proofs.Lines.{set-next}
 use Rattle.route.specs.declared.Route.{Route}
-use Rattle.layout.specs.Laid.{unlaid}
+use Rattle.layout.specs.Points.{pointsOf}
+use Rattle.layout.specs.Laid.{unlaid, Laid}
 use Rattle.groups.specs.Groups.{heads}
 use Rattle.groups.proofs.Parts.{head-of, heads-next}
 use Rattle.laying.specs.declared.Layout.{Layout}
-use Rattle.laying.specs.Lease.{Served, Progress}
+use Rattle.laying.specs.Lease.{GroupLaid, Served, Progress}
 
 -- what stands behind stays, step by step
 pub beyond-on : (a b c : List ℕ) (n : ℕ) → Beyond a b n → Beyond b c n → Beyond a c n
@@ -29,6 +34,31 @@ beyond-on a b c n p q = record { size = q .size ∙ p .size; same = λ k h. q .s
 
 pub beyond-self : (a : List ℕ) (n : ℕ) → Beyond a a n
 beyond-self a n = record { size = refl; same = λ k h. refl }
+
+-- ---- the runs of a group
+
+module _ (xs ys : Side) (centres : List ℕ) (c : ℕ) (moves : List Move) where
+  pub laid-none : (routes : List Route) → GroupLaid xs ys 0 centres c moves routes routes
+  laid-none routes = record { laid = λ k h. absurd (omega arith); others = λ k d. refl }
+
+  -- run k has another centre
+  pub laid-skip : {k : ℕ} {old new : List Route} → ¬ (getD centres k 0 ≡ c) → GroupLaid xs ys k centres c moves old new → GroupLaid xs ys (k + 1) centres c moves old new
+  laid-skip {k} {old} {new} d G =
+      record {
+        laid = below-more (λ j. getD centres j 0 ≡ c → Laid (pointsOf xs ys c) (pointsOf xs ys j) c moves j (getD new j unlaid)) k (G .laid) (λ e. absurd (d e));
+        others = λ j f. G .others j (λ h. f (omega arith));
+      }
+
+  -- run k has this one, and its route is laid
+  pub laid-next : {k : ℕ} {old new : List Route} (r : Route) → k < length new → getD centres k 0 ≡ c → Laid (pointsOf xs ys c) (pointsOf xs ys k) c moves k r
+      → GroupLaid xs ys k centres c moves old new → GroupLaid xs ys (k + 1) centres c moves old (set new k r)
+  laid-next {k} {old} {new} r h own L G =
+      record {
+        laid = set-next unlaid new k r h (λ j s. getD centres j 0 ≡ c → Laid (pointsOf xs ys c) (pointsOf xs ys j) c moves j s) (G .laid) (λ e. L);
+        others = λ j f. getD-set-other new k j r unlaid (λ e. f (omega arith) (subst (λ i. getD centres i 0 ≡ c) (sym e) own)) ∙ G .others j (λ h. f (omega arith));
+      }
+
+-- ---- the groups
 
 module _ (runs : List Run) (xs ys : Side) (centres : List ℕ) where
   abbrev centre : ℕ → ℕ

@@ -23,7 +23,7 @@ use Rattle.table.specs.OnSides.{sideAt, OnSides, viewBy, boxBy}
 use Rattle.route.specs.declared.Route.{Route as Steps}
 use Rattle.route.specs.Route.{drawnOf, OnGrid}
 use Rattle.layout.specs.Points.{pointsOf}
-use Rattle.layout.specs.Laid.{unlaid, Laid, GroupLayable, GroupLaid}
+use Rattle.layout.specs.Laid.{unlaid, Layable, Laid}
 use Rattle.groups.specs.Groups.{heads, allStars, centreOf}
 use Rattle.laying.specs.declared.Layout.{Layout}
 use Rattle.laying.specs.declared.Moves.{Moves}
@@ -41,6 +41,21 @@ pub record LeaseSurveyed (runs : List Run) (xs ys : Side) (n : ℕ) (centres nei
   pub short : (d : Dir) (i : ℕ) → getD (sideAt xs ys d .len) i 0 ≤ 2000000
   pub stars : allStars (meets (hanan runs) runs) (length runs) ≡ true
   pub centres-are : (i : ℕ) → i < n → getD centres i 0 ≡ centreOf (meets (hanan runs) runs) (length runs) i
+
+-- ---- one group
+
+module _ (xs ys : Side) (n : ℕ) (centres : List ℕ) (c : ℕ) (moves : List Move) where
+  -- those of the first n runs that have the centre c can be laid by its moves, and c is one of them
+  pub record GroupLayable : Type 0 where
+    pub few : n ≤ 32
+    pub centre : c < n
+    pub own : getD centres c 0 ≡ c
+    pub layable : (k : ℕ) → k < n → getD centres k 0 ≡ c → Layable (pointsOf xs ys c) (pointsOf xs ys k) c moves k
+
+  -- they have their routes; the other routes are the old ones
+  pub record GroupLaid (old new : List Steps) : Type 0 where
+    pub laid : (k : ℕ) → k < n → getD centres k 0 ≡ c → Laid (pointsOf xs ys c) (pointsOf xs ys k) c moves k (getD new k unlaid)
+    pub others : (k : ℕ) → (k < n → getD centres k 0 ≡ c → ⊥) → getD new k unlaid ≡ getD old k unlaid
 
 module _ (runs : List Run) (xs ys : Side) (centres : List ℕ) where
   -- the centre c among its leaves

@@ -45,7 +45,8 @@ fn moves_of(
     Moves { saved, trace }
 }
 
-// The routes of n runs whose groups are stars with these centres.
+// The routes of n runs whose groups are stars with these centres. Both loops stand here, and a run's points are looked up here: handed on, all routes would be
+// copied for each group, and the sides for each run.
 pub fn lay(
     xs: Side,
     ys: Side,
@@ -71,8 +72,22 @@ pub fn lay(
         if centres[i] == i {
             let moves = moves_of(xs, ys, n, centres, neighbours, i, work);
             let trace = moves.trace;
-            let next = layout::lay_group(xs, ys, n, centres, i, trace, routes);
-            routes = next;
+            let centre = layout::both_points(xs.first[i], ys.first[i], xs.second[i], ys.second[i]);
+            let found = layout::stretches(trace);
+            let mut k: usize = 0;
+            while k < n {
+                if centres[k] == i {
+                    let run = layout::both_points(
+                        xs.first[k],
+                        ys.first[k],
+                        xs.second[k],
+                        ys.second[k],
+                    );
+                    let s = found[k];
+                    routes[k] = layout::route_of(centre, run, i, k, trace, s);
+                }
+                k += 1;
+            }
             saved += moves.saved as u64;
         }
         i += 1;

@@ -5,7 +5,7 @@ use mathlib.Core.Bool.{false, cond}
 use mathlib.Core.List.{List, _++_}
 use Prim.Native.Nat.{ℕ, _+_, _≤_, _<_}
 use lib.Dec.{eqb, leb}
-use lib.ListN.{getD, replicate}
+use lib.ListN.{replicate}
 use Rattle.network.specs.Plane.{gap}
 use Rattle.network.specs.Steps.{Dir, steps}
 use Rattle.sharing.specs.Box.{Box}
@@ -14,10 +14,9 @@ use Rattle.sharing.specs.Walk.{dirs, moved}
 use Rattle.sharing.specs.Leaf.{before, stretch, via}
 use Rattle.route.specs.declared.Route.{Route}
 use Rattle.route.specs.Route.{stepsOf}
-use Rattle.table.specs.declared.side.Side.{Side}
 use Rattle.layout.specs.declared.Points.{Points}
 use Rattle.layout.specs.declared.Stretch.{Stretch}
-use Rattle.layout.specs.Points.{pointsOf, OnLines, box64}
+use Rattle.layout.specs.Points.{OnLines, box64}
 use Rattle.layout.specs.Stretch.{Found, Together}
 
 -- s is the route r with n steps more, the steps l
@@ -55,13 +54,6 @@ pub record Layable (centre run : Points) (c : ℕ) (moves : List Move) (k : ℕ)
   pub leads : (d : Dir) → steps d (stepsBy (box64 centre centre) (box64 centre run) c moves k) ≡ gap (box64 centre run .first d) (box64 centre run .second d)
   pub together : (k ≡ c → ⊥) → Together k moves
 
--- so can those of the first n runs that have the centre c, and c is one of them
-pub record GroupLayable (xs ys : Side) (n : ℕ) (centres : List ℕ) (c : ℕ) (moves : List Move) : Type 0 where
-  pub few : n ≤ 32
-  pub centre : c < n
-  pub own : getD centres c 0 ≡ c
-  pub layable : (k : ℕ) → k < n → getD centres k 0 ≡ c → Layable (pointsOf xs ys c) (pointsOf xs ys k) c moves k
-
 -- run k is a leaf that shares moves with the centre, and s says where they stand
 pub record Stretched (centre leaf : Points) (c : ℕ) (moves : List Move) (k : ℕ) (s : Stretch) : Type 0 where
   pub centre-layable : Layable centre centre c moves c
@@ -78,8 +70,3 @@ pub record Laid (centre run : Points) (c : ℕ) (moves : List Move) (k : ℕ) (r
   pub row : r .start .row ≡ run .y .first
   pub rightward : r .right ≡ leb (run .x .first) (run .x .second)
   pub upward : r .up ≡ leb (run .y .first) (run .y .second)
-
--- of the first n runs, those that have the centre c have their routes; the other routes are the old ones
-pub record GroupLaid (xs ys : Side) (n : ℕ) (centres : List ℕ) (c : ℕ) (moves : List Move) (old new : List Route) : Type 0 where
-  pub laid : (k : ℕ) → k < n → getD centres k 0 ≡ c → Laid (pointsOf xs ys c) (pointsOf xs ys k) c moves k (getD new k unlaid)
-  pub others : (k : ℕ) → (k < n → getD centres k 0 ≡ c → ⊥) → getD new k unlaid ≡ getD old k unlaid

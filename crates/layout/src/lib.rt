@@ -1,10 +1,9 @@
-// From a centre's moves to the routes of its group, as steps on the grid's lines. A run is known by its index, and its points by the indexes of their
+// From a centre's moves to the route of a run of its group, as steps on the grid's lines. A run is known by its index, and its points by the indexes of their
 // lines on the two axes (`xs` and `ys`). The centre's moves are the trace of the table: steps (0 along the row, any other along the column), and for each
 // the leaf that it is shared with (32 or above: none).
 use route::Route;
 use route::Vertex;
 use table::frame::gap;
-use table::side::Side;
 use table::side::wide;
 use table::trace::Trace;
 ghost use mathlib.Core.Path.{_≡_};
@@ -22,7 +21,7 @@ ghost use Rattle.table.specs.Walk.{movesOf};
 ghost use Rattle.layout.specs.Points.{OnLines, numberOf};
 ghost use Rattle.layout.specs.Stretch.{alongRow, nothing, grown, Found};
 ghost use Rattle.layout.specs.Way.{wayOf, passesForth, legOf};
-ghost use Rattle.layout.specs.Laid.{Longer, begun, Layable, Stretched, GroupLayable, Laid, GroupLaid};
+ghost use Rattle.layout.specs.Laid.{Longer, begun, Layable, Stretched, Laid};
 
 // The moves that are shared with a leaf: `size` moves from index `from` on. Of the moves before them `across` go along the row, and of themselves
 // `wide`.
@@ -161,7 +160,7 @@ fn with_move(s: Stretch, i: usize, across: usize, step: u8) -> Stretch
 }
 
 // For each leaf, where the moves that are shared with it stand.
-fn stretches(moves: Trace) -> [Stretch; 32]
+pub fn stretches(moves: Trace) -> [Stretch; 32]
     requires { ⌜ moves .count ≤ 128 ⌝ }
     ensures { λ r. ⌜ ((k : ℕ) → k < 32 → Found k (movesOf moves) (getD r k nothing)) ⌝ }
 {
@@ -232,7 +231,7 @@ fn way_of(centre: Ends, leaf: Ends, passed: usize, n: usize) -> Way
 // ---- the routes
 
 // The points (x1, y1) and (x2, y2).
-fn both_points(x1: u8, y1: u8, x2: u8, y2: u8) -> Points
+pub fn both_points(x1: u8, y1: u8, x2: u8, y2: u8) -> Points
     ensures { λ r. ⌜ r ≡ record { x = record { first = x1; second = x2 }; y = record { first = y1; second = y2 } } ⌝ }
 {
     Points {
@@ -289,7 +288,7 @@ fn extent(run: Ends) -> usize
 }
 
 // The route of run k, with the index c of the centre. A leaf that shares nothing goes along the row, then the column.
-fn route_of(centre: Points, run: Points, c: usize, k: usize, moves: Trace, s: Stretch) -> Route
+pub fn route_of(centre: Points, run: Points, c: usize, k: usize, moves: Trace, s: Stretch) -> Route
     requires { ⌜ Layable centre centre c (movesOf moves) c × Layable centre run c (movesOf moves) k × Found k (movesOf moves) s ⌝ }
     ensures { λ r. ⌜ Laid centre run c (movesOf moves) k r ⌝ }
 {
@@ -302,38 +301,4 @@ fn route_of(centre: Points, run: Points, c: usize, k: usize, moves: Trace, s: St
         return leg(r, extent(run.x), extent(run.y));
     }
     leaf_route(centre, run, moves, s)
-}
-
-// The routes with those of the runs below n that have this centre laid by its moves; the others stay. The points of a run are looked up here: handed on, the sides
-// would be copied for each run.
-pub fn lay_group(
-    xs: Side,
-    ys: Side,
-    n: usize,
-    centres: &[usize; 32],
-    centre: usize,
-    moves: Trace,
-    routes: [Route; 32],
-) -> [Route; 32]
-    requires { ⌜ GroupLayable xs ys n (now centres) centre (movesOf moves) ⌝ }
-    ensures { λ r. ⌜ GroupLaid xs ys n (now (centres .entry)) centre (movesOf moves) routes r ⌝ }
-{
-    let middle = both_points(
-        xs.first[centre],
-        ys.first[centre],
-        xs.second[centre],
-        ys.second[centre],
-    );
-    let found = stretches(moves);
-    let mut t = routes;
-    let mut k: usize = 0;
-    while k < n {
-        if centres[k] == centre {
-            let run = both_points(xs.first[k], ys.first[k], xs.second[k], ys.second[k]);
-            let s = found[k];
-            t[k] = route_of(middle, run, centre, k, moves, s);
-        }
-        k += 1;
-    }
-    t
 }

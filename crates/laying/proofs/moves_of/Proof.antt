@@ -3,8 +3,7 @@ use mathlib.Core.Path.{sym, subst}
 use Prim.Native.Nat.{_≤_}
 use native.Mathlib.Omega.{arith}
 use borrow.Author.Needs.{needs}
-use Rattle.layout.specs.Laid.{GroupLayable, GroupLaid}
-use Rattle.laying.specs.Lease.{tableWords, Served}
+use Rattle.laying.specs.Lease.{tableWords, GroupLayable, GroupLaid, Served}
 use Rattle.laying.proofs.Laying.{group-asks, group-fits, work-beyond, walk-fits, group-served}
 use Rattle.laying.proofs.moves_of.Statement.{statement}
 use Rattle.laying.proofs.moves_of.Tie as tie
