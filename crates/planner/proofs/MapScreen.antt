@@ -26,7 +26,7 @@ use Rattle.planner.proofs.Stages.{decided}
 use Rattle.planner.proofs.Stars.{accepted-few}
 use Rattle.planner.proofs.Minus.{minus-fits}
 
--- no plan exceeds 36,822 bytes
+-- no plan exceeds 36,886 bytes
 pub plan-short : (job out out′ : List ℕ) (n : ℕ) → Bytes job → Outcome (judged (parse job)) out (gives n) out′ → n ≤ 36886
 plan-short job out out′ n b p = go (judged (parse job)) refl p
   where

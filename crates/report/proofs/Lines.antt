@@ -23,6 +23,6 @@ module _ (number : ℕ) (runs : List Read) (w : WellFormed number runs) (routes 
   unfolding planBytes drawnBytes
   plan-lists rest = plan-listing (planHead number runs routes) (planEntries runs routes) (plan-right number runs w routes m) rest
 
-  -- which has at most 74,421 bytes
+  -- which has at most 74,837 bytes
   pub plan-room : length (planText (planHead number runs routes) (planEntries runs routes)) ≤ 74837
   plan-room = plan-text-most (planHead number runs routes) (planEntries runs routes) (plan-right number runs w routes m)

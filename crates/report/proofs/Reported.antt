@@ -1,4 +1,4 @@
--- The listing of a job is the text of the verdict: of the plan that stands in the plan buffer, or of the refusal that is answered. A text buffer of 74,421
+-- The listing of a job is the text of the verdict: of the plan that stands in the plan buffer, or of the refusal that is answered. A text buffer of 74,837
 -- bytes has room for all of it, and the first 640 bytes of the job decide it.
 use mathlib.Core.Path.{_≡_, refl, ap, _∙_}
 use mathlib.Core.Logic.{_⊎_, inl, inr}
@@ -105,7 +105,7 @@ abbrev pub ReportedWhole : Parsed → (text text′ : List ℕ) → ℕ → Type
 ReportedWhole (accepted number runs) text text′ n = ListsWhole number runs text text′ n
 ReportedWhole (refused x) text text′ n = Wrote (refusalText x) text text′ n
 
--- A text buffer of 74,421 bytes has room for every text.
+-- A text buffer of 74,837 bytes has room for every text.
 pub report-whole : (job text text′ : List ℕ) (n : ℕ) → Bytes job → 74837 ≤ length text → Reported (judged (parse job)) text text′ n
     → ReportedWhole (judged (parse job)) text text′ n
 report-whole job text text′ n b room r = go (judged (parse job)) refl r
