@@ -1,4 +1,4 @@
--- Heads of both kinds are one case of the code, and so are routes.
+-- Corners are the first case of the code. Heads of both kinds are one case, and so are routes.
 use mathlib.Core.Path.{_≡_, refl, sym, _∙_}
 use mathlib.Core.Logic.{_⊎_, inl, inr}
 use mathlib.Core.Bool.{Bool, true, false, cond, _&&_, _||_, true≢false}
@@ -26,6 +26,10 @@ neither-is x y rest true b h = absurd (true≢false h)
 neither-is x y rest false true h = absurd (true≢false h)
 neither-is x y rest false false h = refl
 
+-- a corner, in the 8 bytes of a body
+abbrev pub corner : List ℕ → Record
+corner bytes = whole 8 bytes (rec.Corner (word4 bytes 0) (word4 bytes 4))
+
 module _ (kind : ℕ) (bytes : List ℕ) where
   abbrev pub isHead : Bool
   isHead = eqb kind 0x51 || eqb kind 0x50
@@ -35,7 +39,11 @@ module _ (kind : ℕ) (bytes : List ℕ) where
 
   -- the other records
   abbrev pub others : Record
-  others = cond (eqb kind 0x43) (whole 8 bytes (rec.Corner (word4 bytes 0) (word4 bytes 4))) (cond (eqb kind 0x5A) (whole 2 bytes (rec.End (word2 bytes 0))) rec.Other)
+  others = cond (eqb kind 0x43) (corner bytes) (cond (eqb kind 0x5A) (whole 2 bytes (rec.End (word2 bytes 0))) rec.Other)
+
+  pub corner-kind : kind ≡ 0x43 → corner bytes ≡ decoded kind bytes
+  unfolding decoded
+  corner-kind h = rw h
 
   pub head-kind : isHead ≡ true → whole 18 bytes (rec.Head (headBody (eqb kind 0x51) bytes)) ≡ decoded kind bytes
   unfolding decoded

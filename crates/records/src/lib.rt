@@ -84,17 +84,11 @@ fn route_in(body: &[u8], grouped: bool) -> Record
     }
 }
 
-// The record of this kind whose body the bytes begin with. Heads of both kinds are one case, and so are routes: with a case for each, this would become a call for every
-// corner.
+// The record of this kind whose body the bytes begin with. Corners come first, since most records are corners. Heads of both kinds are one case, and so are routes: with a
+// case for each, this would become a call for every corner.
 fn decode(kind: u8, body: &[u8]) -> Record
     ensures { λ r. ⌜ r ≡ decoded kind (now (body .entry)) ⌝ }
 {
-    if (kind == 0x51) | (kind == 0x50) {
-        return head_in(body, kind == 0x51);
-    }
-    if (kind == 0x4F) | (kind == 0x4E) {
-        return route_in(body, kind == 0x4F);
-    }
     if kind == 0x43 {
         if body.len() < 8 {
             return Record::Other;
@@ -103,6 +97,12 @@ fn decode(kind: u8, body: &[u8]) -> Record
             x: job::le32(body, 0),
             y: job::le32(body, 4),
         };
+    }
+    if (kind == 0x51) | (kind == 0x50) {
+        return head_in(body, kind == 0x51);
+    }
+    if (kind == 0x4F) | (kind == 0x4E) {
+        return route_in(body, kind == 0x4F);
     }
     if kind == 0x5A {
         if body.len() < 2 {
