@@ -17,7 +17,6 @@ use Rattle.book.specs.declared.Route.the-variants as route
 use Rattle.book.specs.declared.Spot.the-variants as spot
 use Rattle.book.specs.Parse.{isGrouped}
 use Rattle.book.specs.Reading.{asRoute, routeBy, asSpot, cornerPlace, cornerBy}
-use Rattle.book.specs.Shape.{saidOf}
 
 -- ---- a record of another kind
 
@@ -27,13 +26,6 @@ else-route (rec.Head h) t = refl
 else-route (rec.Corner x y) t = refl
 else-route (rec.End total) t = refl
 else-route rec.Other t = refl
-
-pub else-said : (g : Record) → OneOf (0 ∷ 2 ∷ 3 ∷ 4 ∷ []) (tagOf the-type g) → 0 ≡ saidOf g
-else-said (rec.Route g number meets said centre) t = absurd (miss (0 ∷ 2 ∷ 3 ∷ 4 ∷ []) 1 tt t)
-else-said (rec.Head h) t = refl
-else-said (rec.Corner x y) t = refl
-else-said (rec.End total) t = refl
-else-said rec.Other t = refl
 
 pub else-corner : (g : Record) → OneOf (0 ∷ 1 ∷ 3 ∷ 4 ∷ []) (tagOf the-type g) → spot.Nothing ≡ asSpot g
 else-corner (rec.Corner x y) t = absurd (miss (0 ∷ 1 ∷ 3 ∷ 4 ∷ []) 2 tt t)

@@ -6,7 +6,8 @@ use Prim.Native.Nat.{ℕ, suc, _+_, _*_, _≤_, _<_}
 use native.Mathlib.Numerals.{add-one}
 use native.Mathlib.Omega.{arith}
 use lib.Dec.{eqb}
-use lib.ListN.{length, getD, drop, length-map, drop-of-length-le}
+use lib.ListN.{length, getD, drop, length-map, length-drop, drop-of-length-le}
+use lib.Seq.{getD-drop}
 use borrow.Author.Tests.{eq-eqb, ne-eqb, eqb-true, eqb-false, not-false}
 use Rattle.network.specs.Lists.{All}
 use Rattle.network.proofs.Tests.{neither, eqb-same}
@@ -15,13 +16,13 @@ use Rattle.refusal.specs.declared.Refusal.the-variants.{Miscounted}
 use Rattle.plan.specs.declared.Head.{Head}
 use Rattle.plan.specs.Records.{routeSize}
 use Rattle.plan.specs.Plan.{Entry, totalCorners}
+use Rattle.plan.proofs.Length.{route-size}
+use Rattle.job.specs.Fields.{word2}
 use Rattle.records.specs.declared.Record.{Record}
 use Rattle.records.specs.declared.Record.the-variants as rec
 use Rattle.records.specs.Records.{recordOf}
-use Rattle.book.specs.declared.Answer.the-variants.{Accepted}
+use Rattle.book.specs.declared.Answer.the-variants.{Accepted, Refused}
 use Rattle.book.specs.declared.Reading.{Reading}
-use Rattle.book.specs.declared.Found.the-variants.{Whole, Refused}
-use Rattle.book.specs.declared.Shape.{Shape}
 use Rattle.book.specs.Parse.{
   Parsed,
   accepted,
@@ -42,8 +43,8 @@ use Rattle.book.specs.Parse.{
   parsePlan,
 }
 use Rattle.book.specs.Reading.{places, padded, readingOf}
-use Rattle.book.specs.Shape.{shapeBy, shapeOf, saidOf}
-use Rattle.book.proofs.Taken.{head-grouped}
+use Rattle.book.specs.Shape.{whole, broken, shapeBy, shapeOf, answerOf}
+use Rattle.book.proofs.Taken.{record-long, head-grouped}
 use Rattle.book.proofs.Places.{RoutesAt, Reads, rest-reads}
 use Rattle.book.proofs.Stands.{Stands, first-place, padded-place, placed}
 
@@ -52,6 +53,9 @@ use Rattle.book.proofs.Stands.{Stands, first-place, padded-place, place
 -- a refusal is no acceptance
 pub not-both : (x : Refusal) (h : Head) (es : List Entry) → refused x ≡ accepted h es → ⊥
 not-both x h es e = let z : _≡_ {A = ℕ} 0 1 = cc in omega arith
+
+never-both : (x : Refusal) → Accepted ≡ Refused x → ⊥
+never-both x e = let z : _≡_ {A = ℕ} 0 1 = cc in omega arith
 
 -- the side of a test that is no refusal
 kept : (b : Bool) (x : Refusal) (y : Parsed) (h : Head) (es : List Entry) → cond b (refused x) y ≡ accepted h es → (b ≡ false) × (y ≡ accepted h es)
@@ -104,17 +108,17 @@ agreed-right g ts total h es e =
 
 -- ---- a whole book
 
--- its shape, and what its records are
-pub record WholeBook (s : List ℕ) (shape : Shape) (h : Head) : Type 0 where
+-- what its records are, and what is known of them before the counts are compared
+pub record WholeBook (s : List ℕ) (h : Head) (n total : ℕ) (held : List ℕ) : Type 0 where
   pub told : List Told
-  pub is : parsePlan s ≡ agreed h told (shape .total)
-  pub count : shape .count ≡ length told
-  pub places : shape .places ≡ padded (places (h .grouped) 19 (entriesOf told))
-  pub held : RoutesAt s 19 (start (h .grouped)) told
+  pub is : parsePlan s ≡ agreed h told total
+  pub count : n ≡ length told
+  pub places : held ≡ padded (places (h .grouped) 19 (entriesOf told))
+  pub stand : RoutesAt s 19 (start (h .grouped)) told
   pub few : length told ≤ 32
 
-never-whole : (x : Refusal) (h : Head) → Refused x ≡ Whole h → ⊥
-never-whole x h e = let z : _≡_ {A = ℕ} 0 1 = cc in omega arith
+never-whole : (x : Refusal) (h : Head) (n total : ℕ) (held : List ℕ) → whole h n total held ≡ broken x → ⊥
+never-whole x h n total held e = let z : _≡_ {A = ℕ} 0 1 = cc in omega arith
 
 module _ (s : List ℕ) where
   -- what stands behind a head
@@ -123,44 +127,48 @@ module _ (s : List ℕ) where
       subst (λ g. Reads s 19 (start g) (restOf s)) (head-grouped s h e)
       (rest-reads s (suc (length s)) 19 (start (isGrouped s)) (omega arith) (omega arith))
 
-  whole-by : (g : Record) (k : Rest) (shape : Shape) (h : Head) → parsePlan s ≡ parseBy g k → ((f : Head) → g ≡ rec.Head f → Reads s 19 (start (f .grouped)) k)
-      → shape ≡ shapeBy g k → shape .found ≡ Whole h → WholeBook s shape h
-  unfolding parseBy shapeBy
-  whole-by (rec.Head g) (rest cs ts total) shape h p reads e f =
-      let same : g ≡ h = cc (ap (λ q. q .found) e) in
-      let t = reads g refl in
-      let m : 19 + 9 * length cs ≡ 19 = omega (arith, ap length (t .first refl)) in
-      record {
-        told = ts;
-        is = p ∙ ap₂ (λ q n. agreed q ts n) same (sym (ap (λ q. q .total) e));
-        count = ap (λ q. q .count) e;
-        places = ap (λ q. q .places) e ∙ ap₂ (λ (f : Head) (n : ℕ). padded (places (f .grouped) n (entriesOf ts))) same m;
-        held = rw (m, t .first refl, same) at (t .routes);
-        few = omega (arith, t .few);
-      }
-  whole-by (rec.Head g) (stopped x) shape h p t e f = absurd (never-whole x h (sym (ap (λ q. q .found) e) ∙ f))
-  whole-by (rec.Route q number meets said centre) k shape h p t e f = absurd (never-whole _ h (sym (ap (λ q. q .found) e) ∙ f))
-  whole-by (rec.Corner x y) k shape h p t e f = absurd (never-whole _ h (sym (ap (λ q. q .found) e) ∙ f))
-  whole-by (rec.End total) k shape h p t e f = absurd (never-whole _ h (sym (ap (λ q. q .found) e) ∙ f))
-  whole-by rec.Other k shape h p t e f = absurd (never-whole _ h (sym (ap (λ q. q .found) e) ∙ f))
+  module _ (h : Head) (n total : ℕ) (held : List ℕ) where
+    whole-by : (g : Record) (k : Rest) → parsePlan s ≡ parseBy g k → ((f : Head) → g ≡ rec.Head f → Reads s 19 (start (f .grouped)) k)
+        → whole h n total held ≡ shapeBy g k → WholeBook s h n total held
+    unfolding parseBy shapeBy
+    whole-by (rec.Head g) (rest cs ts last) p reads e =
+        let same : g ≡ h = cc in
+        let t = reads g refl in
+        let m : 19 + 9 * length cs ≡ 19 = omega (arith, ap length (t .first refl)) in
+        let count : n ≡ length ts = cc in
+        let end : last ≡ total = cc in
+        let at : held ≡ padded (places (g .grouped) (19 + 9 * length cs) (entriesOf ts)) = cc in
+        record {
+          told = ts;
+          is = p ∙ ap₂ (λ q k. agreed q ts k) same end;
+          count = count;
+          places = at ∙ ap₂ (λ (f : Head) (k : ℕ). padded (places (f .grouped) k (entriesOf ts))) same m;
+          stand = rw (m, t .first refl, same) at (t .routes);
+          few = omega (arith, t .few);
+        }
+    whole-by (rec.Head g) (stopped x) p reads e = absurd (never-whole x h n total held e)
+    whole-by (rec.Route q number meets said centre) k p reads e = absurd (never-whole _ h n total held e)
+    whole-by (rec.Corner x y) k p reads e = absurd (never-whole _ h n total held e)
+    whole-by (rec.End last) k p reads e = absurd (never-whole _ h n total held e)
+    whole-by rec.Other k p reads e = absurd (never-whole _ h n total held e)
 
-  pub whole-book : (shape : Shape) (h : Head) → (shape ≡ shapeOf s) × (shape .found ≡ Whole h) → WholeBook s shape h
-  unfolding parsePlan shapeOf
-  whole-book shape h e = whole-by (recordOf s) (restOf s) shape h refl head-reads (e .0) (e .1)
+    pub whole-book : whole h n total held ≡ shapeOf s → WholeBook s h n total held
+    unfolding parsePlan shapeOf
+    whole-book e = whole-by (recordOf s) (restOf s) refl head-reads e
 
   -- a shape that is a refusal is the answer
-  refused-by : (g : Record) (k : Rest) (shape : Shape) (x : Refusal) → shape ≡ shapeBy g k → shape .found ≡ Refused x → parseBy g k ≡ refused x
+  refused-by : (g : Record) (k : Rest) (x : Refusal) → broken x ≡ shapeBy g k → refused x ≡ parseBy g k
   unfolding parseBy shapeBy
-  refused-by (rec.Head g) (rest cs ts total) shape x e f = absurd (never-whole x g (sym f ∙ ap (λ q. q .found) e))
-  refused-by (rec.Head g) (stopped y) shape x e f = cc (sym (ap (λ q. q .found) e) ∙ f)
-  refused-by (rec.Route q number meets said centre) k shape x e f = cc (sym (ap (λ q. q .found) e) ∙ f)
-  refused-by (rec.Corner a b) k shape x e f = cc (sym (ap (λ q. q .found) e) ∙ f)
-  refused-by (rec.End total) k shape x e f = cc (sym (ap (λ q. q .found) e) ∙ f)
-  refused-by rec.Other k shape x e f = cc (sym (ap (λ q. q .found) e) ∙ f)
+  refused-by (rec.Head g) (rest cs ts total) x e = absurd (never-whole x g _ _ _ (sym e))
+  refused-by (rec.Head g) (stopped y) x e = cc
+  refused-by (rec.Route q number meets said centre) k x e = cc
+  refused-by (rec.Corner a b) k x e = cc
+  refused-by (rec.End total) k x e = cc
+  refused-by rec.Other k x e = cc
 
-  pub shape-refused : (shape : Shape) (x : Refusal) → shape ≡ shapeOf s → shape .found ≡ Refused x → readingOf (refused x) ≡ readingOf (parsePlan s)
+  pub shape-refused : (x : Refusal) → broken x ≡ shapeOf s → readingOf (refused x) ≡ readingOf (parsePlan s)
   unfolding parsePlan shapeOf
-  shape-refused shape x e f = sym (ap readingOf (refused-by (recordOf s) (restOf s) shape x e f))
+  shape-refused x e = ap readingOf (refused-by (recordOf s) (restOf s) x e)
 
 -- ---- the counts by the places
 
@@ -179,58 +187,70 @@ abbrev lastly : Head → List Told → ℕ → ℕ → Parsed
 lastly h ts total end = cond (not (eqb total (totalCorners (entriesOf ts)))) (refused (Miscounted end)) (accepted h (entriesOf ts))
 
 -- from route i on
-pub Comparing : {s : List ℕ} {shape : Shape} {h : Head} → WholeBook s shape h → ℕ → Type 0
-Comparing {s} {shape} {h} w i =
-    counted (h .grouped) 19 (w .told) (lastly h (w .told) (shape .total))
-    ≡ counted (h .grouped) (getD (shape .places) i 0) (drop i (w .told)) (lastly h (w .told) (shape .total))
+pub Comparing : {s : List ℕ} {h : Head} {n total : ℕ} {held : List ℕ} → WholeBook s h n total held → ℕ → Type 0
+Comparing {s} {h} {n} {total} {held} w i =
+    counted (h .grouped) 19 (w .told) (lastly h (w .told) total) ≡ counted (h .grouped) (getD held i 0) (drop i (w .told)) (lastly h (w .told) total)
 
-refusing-is : (s : List ℕ) (x : Refusal) → parsePlan s ≡ refused x → readingOf (refused x) ≡ readingOf (parsePlan s)
-refusing-is s x e = sym (ap readingOf e)
+refusing-is : (s : List ℕ) (x : Refusal) → parsePlan s ≡ refused x → Refused x ≡ answerOf (parsePlan s)
+refusing-is s x e = sym (ap answerOf e)
 
-module _ {s : List ℕ} {shape : Shape} {h : Head} (w : WholeBook s shape h) where
+module _ {s : List ℕ} {h : Head} {n total : ℕ} {held : List ℕ} (w : WholeBook s h n total held) where
   -- the head's count differs
-  pub runs-wrong : (h .runs ≡ shape .count → ⊥) → readingOf (refused (Miscounted 0)) ≡ readingOf (parsePlan s)
+  pub runs-wrong : (h .runs ≡ n → ⊥) → Refused (Miscounted 0) ≡ answerOf (parsePlan s)
   unfolding agreed
-  runs-wrong n = refusing-is s _ (w .is ∙ simp (ne-eqb (h .runs) (length (w .told)) (λ z. n (z ∙ sym (w .count)))))
+  runs-wrong d = refusing-is s _ (w .is ∙ simp (ne-eqb (h .runs) (length (w .told)) (λ z. d (z ∙ sym (w .count)))))
 
-  counting : h .runs ≡ shape .count → parsePlan s ≡ counted (h .grouped) 19 (w .told) (lastly h (w .told) (shape .total))
+  counting : h .runs ≡ n → parsePlan s ≡ counted (h .grouped) 19 (w .told) (lastly h (w .told) total)
   unfolding agreed
   counting e = w .is ∙ simp (eq-eqb (h .runs) (length (w .told)) (e ∙ w .count))
 
   pub comparing-start : Comparing w 0
   unfolding Comparing
   comparing-start =
-      ap (λ (m : ℕ). counted (h .grouped) m (w .told) (lastly h (w .told) (shape .total)))
-      (sym (padded-place (h .grouped) (shape .places) (entriesOf (w .told)) (w .places) 0 (omega arith) ∙ first-place (h .grouped) 19 (entriesOf (w .told))))
+      ap (λ (m : ℕ). counted (h .grouped) m (w .told) (lastly h (w .told) total))
+      (sym (padded-place (h .grouped) held (entriesOf (w .told)) (w .places) 0 (omega arith) ∙ first-place (h .grouped) 19 (entriesOf (w .told))))
 
-  module _ (i : ℕ) (l : i < shape .count) where
-    stood : Stands s (h .grouped) (w .told) i (getD (shape .places) i 0) (getD (shape .places) (i + 1) 0)
-    stood = placed s (h .grouped) (shape .places) (w .told) i (w .places) (w .held) (omega (arith, w .count))
+  module _ (i : ℕ) (l : i < n) where
+    stood : Stands s (h .grouped) (w .told) i (getD held i 0) (getD held (i + 1) 0)
+    stood = placed s (h .grouped) held (w .told) i (w .places) (w .stand) (omega (arith, w .count))
 
     pub small : i < 32
     small = omega (arith, w .count, w .few)
 
-    module _ (said : ℕ) (is : said ≡ saidOf (recordOf (drop (getD (shape .places) i 0) s))) where
+    -- the record of route i, whole
+    there : (routeSize (h .grouped) ≤ length (drop (getD held i 0) s)) × (stood .route .said ≡ word2 (drop (getD held i 0) s) 5)
+    there = rw (stood .at .is) at (record-long (drop (getD held i 0) s))
+
+    -- the bytes in which it says its corners
+    pub said-room : getD held i 0 + 6 < length s
+    said-room = omega (arith, there .0, route-size (h .grouped), length-drop (getD held i 0) s)
+
+    said-is : word2 s (getD held i 0 + 5) ≡ stood .route .said
+    said-is =
+        let at = getD held i 0 in
+        let e : at + 5 + 1 ≡ at + 6 = omega arith in
+        ap₂ (λ (a b : ℕ). a + 256 * b) (sym (getD-drop at s 5 0)) (ap (λ (k : ℕ). getD s k 0) e ∙ sym (getD-drop at s 6 0)) ∙ sym (there .1)
+
+    module _ (said : ℕ) (is : said ≡ word2 s (getD held i 0 + 5)) where
       -- the test by the places is the test of the route
-      tested : byPlaces (routeSize (h .grouped)) (getD (shape .places) i 0) (getD (shape .places) (i + 1) 0) said ≡ miscounted (stood .route)
-      tested = tested-by (h .grouped) (getD (shape .places) i 0) (getD (shape .places) (i + 1) 0) said (stood .route) (is ∙ ap saidOf (stood .at .is)) (stood .end)
+      tested : byPlaces (routeSize (h .grouped)) (getD held i 0) (getD held (i + 1) 0) said ≡ miscounted (stood .route)
+      tested = tested-by (h .grouped) (getD held i 0) (getD held (i + 1) 0) said (stood .route) (is ∙ said-is) (stood .end)
 
-      next : Comparing w i → counted (h .grouped) 19 (w .told) (lastly h (w .told) (shape .total))
-          ≡ cond (miscounted (stood .route)) (refused (Miscounted (getD (shape .places) i 0)))
-          (counted (h .grouped) (behind (h .grouped) (getD (shape .places) i 0) (stood .route .entry)) (drop (suc i) (w .told)) (lastly h (w .told) (shape .total)))
+      next : Comparing w i → counted (h .grouped) 19 (w .told) (lastly h (w .told) total)
+          ≡ cond (miscounted (stood .route)) (refused (Miscounted (getD held i 0)))
+          (counted (h .grouped) (behind (h .grouped) (getD held i 0) (stood .route .entry)) (drop (suc i) (w .told)) (lastly h (w .told) total))
       unfolding Comparing counted
-      next c = c ∙ ap (λ ts. counted (h .grouped) (getD (shape .places) i 0) ts (lastly h (w .told) (shape .total))) (stood .here)
+      next c = c ∙ ap (λ ts. counted (h .grouped) (getD held i 0) ts (lastly h (w .told) total)) (stood .here)
 
-      pub compared-wrong : byPlaces (routeSize (h .grouped)) (getD (shape .places) i 0) (getD (shape .places) (i + 1) 0) said ≡ true
-          → h .runs ≡ shape .count → Comparing w i → readingOf (refused (Miscounted (getD (shape .places) i 0))) ≡ readingOf (parsePlan s)
+      pub compared-wrong : byPlaces (routeSize (h .grouped)) (getD held i 0) (getD held (i + 1) 0) said ≡ true
+          → h .runs ≡ n → Comparing w i → Refused (Miscounted (getD held i 0)) ≡ answerOf (parsePlan s)
       compared-wrong t runs c = refusing-is s _ (counting runs ∙ next c ∙ simp (sym tested ∙ t))
 
-      pub compared-on : byPlaces (routeSize (h .grouped)) (getD (shape .places) i 0) (getD (shape .places) (i + 1) 0) said ≡ false
-          → Comparing w i → Comparing w (i + 1)
+      pub compared-on : byPlaces (routeSize (h .grouped)) (getD held i 0) (getD held (i + 1) 0) said ≡ false → Comparing w i → Comparing w (i + 1)
       unfolding Comparing
       compared-on t c =
           next c ∙ simp (sym tested ∙ t)
-          (ap₂ (λ (m k : ℕ). counted (h .grouped) m (drop k (w .told)) (lastly h (w .told) (shape .total))) (sym (stood .end)) (sym (add-one i)))
+          (ap₂ (λ (m k : ℕ). counted (h .grouped) m (drop k (w .told)) (lastly h (w .told) total)) (sym (stood .end)) (sym (add-one i)))
 
   -- ---- the end's count
 
@@ -238,39 +258,60 @@ module _ {s : List ℕ} {shape : Shape} {h : Head} (w : WholeBook s shape h) whe
   end-place g at [] = omega arith
   end-place g at (e ∷ es) = end-place g (behind g at e) es ∙ omega arith
 
-  pub few-routes : shape .count ≤ 32
+  pub few-routes : n ≤ 32
   few-routes = omega (arith, w .count, w .few)
 
-  pub comparing-all : (i : ℕ) → i ≤ shape .count → shape .count ≤ i → Comparing w i → Comparing w (shape .count)
-  comparing-all i k l c = let e : i ≡ shape .count = omega arith in rw e at c
+  pub comparing-all : (i : ℕ) → i ≤ n → n ≤ i → Comparing w i → Comparing w n
+  comparing-all i k l c = let e : i ≡ n = omega arith in rw e at c
 
-  module _ (runs : h .runs ≡ shape .count) (c : Comparing w (shape .count)) where
-    at-end : parsePlan s ≡ lastly h (w .told) (shape .total) (getD (shape .places) (shape .count) 0)
+  module _ (runs : h .runs ≡ n) (c : Comparing w n) where
+    at-end : parsePlan s ≡ lastly h (w .told) total (getD held n 0)
     unfolding Comparing counted
     at-end =
         counting runs ∙ c
-        ∙ ap (λ ts. counted (h .grouped) (getD (shape .places) (shape .count) 0) ts (lastly h (w .told) (shape .total)))
-        (drop-of-length-le (w .told) {i = shape .count} (omega (arith, w .count)))
+        ∙ ap (λ ts. counted (h .grouped) (getD held n 0) ts (lastly h (w .told) total)) (drop-of-length-le (w .told) {i = n} (omega (arith, w .count)))
 
-    ends : getD (shape .places) (shape .count) 0 ≡ 19 + routeSize (h .grouped) * shape .count + 9 * totalCorners (entriesOf (w .told))
+    ends : getD held n 0 ≡ 19 + routeSize (h .grouped) * n + 9 * totalCorners (entriesOf (w .told))
     ends =
-        let n = length-map (w .told) (λ (t : Told). t .entry) in
-        let m : shape .count ≡ length (entriesOf (w .told)) = omega (arith, w .count, n) in
-        padded-place (h .grouped) (shape .places) (entriesOf (w .told)) (w .places) (shape .count) (omega arith)
+        let k = length-map (w .told) (λ (t : Told). t .entry) in
+        let m : n ≡ length (entriesOf (w .told)) = omega (arith, w .count, k) in
+        padded-place (h .grouped) held (entriesOf (w .told)) (w .places) n (omega arith)
         ∙ ap (λ (k : ℕ). getD (places (h .grouped) 19 (entriesOf (w .told))) k 0) m ∙ end-place (h .grouped) 19 (entriesOf (w .told))
         ∙ ap (λ (k : ℕ). 19 + routeSize (h .grouped) * k + 9 * totalCorners (entriesOf (w .told))) (sym m)
 
-    pub total-wrong : (getD (shape .places) (shape .count) 0 ≡ 19 + routeSize (h .grouped) * shape .count + 9 * shape .total → ⊥)
-        → readingOf (refused (Miscounted (getD (shape .places) (shape .count) 0))) ≡ readingOf (parsePlan s)
-    total-wrong n =
+    pub total-wrong : (getD held n 0 ≡ 19 + routeSize (h .grouped) * n + 9 * total → ⊥) → Refused (Miscounted (getD held n 0)) ≡ answerOf (parsePlan s)
+    total-wrong d =
         refusing-is s _
-        (at-end
-        ∙ simp (ne-eqb (shape .total) (totalCorners (entriesOf (w .told))) (λ z. n (ends ∙ ap (λ (m : ℕ). 19 + routeSize (h .grouped) * shape .count + 9 * m) (sym z)))))
+        (at-end ∙ simp (ne-eqb total (totalCorners (entriesOf (w .told))) (λ z. d (ends ∙ ap (λ (m : ℕ). 19 + routeSize (h .grouped) * n + 9 * m) (sym z)))))
 
-    pub all-right : getD (shape .places) (shape .count) 0 ≡ 19 + routeSize (h .grouped) * shape .count + 9 * shape .total
-        → _≡_ {A = Reading} (record { answer = Accepted; head = h; places = shape .places }) (readingOf (parsePlan s))
-    unfolding readingOf
+    pub all-right : getD held n 0 ≡ 19 + routeSize (h .grouped) * n + 9 * total → Accepted ≡ answerOf (parsePlan s)
     all-right e =
-        let t : shape .total ≡ totalCorners (entriesOf (w .told)) = omega (arith, ends) in
-        let whole : parsePlan s ≡ accepted h (entriesOf (w .told)) = at-end ∙ simp (eq-eqb (shape .total) (totalCorners (entriesOf (w .told))) t) in
-        (λ i. record { answer = Accepted; head = h; places = w .places i }) ∙ sym (ap readingOf whole)
+        let t : total ≡ totalCorners (entriesOf (w .told)) = omega (arith, ends) in
+        let right : parsePlan s ≡ accepted h (entriesOf (w .told)) = at-end ∙ simp (eq-eqb total (totalCorners (entriesOf (w .told))) t) in
+        sym (ap answerOf right)
+
+  -- ---- the reading, by the answer
+
+  -- a whole book that is accepted is read as its head and its places
+  accepted-by : (p : Parsed) → agreed h (w .told) total ≡ p → Accepted ≡ answerOf p
+      → _≡_ {A = Reading} (record { answer = Accepted; head = h; places = held }) (readingOf p)
+  unfolding readingOf
+  accepted-by (accepted f es) e a =
+      let r = agreed-right h (w .told) total f es e in
+      λ i. record {
+        answer = Accepted;
+        head = r .head i;
+        places = (w .places ∙ λ j. padded (places (r .head j .grouped) 19 (r .entries j))) i;
+      }
+  accepted-by (refused x) e a = absurd (never-both x a)
+
+  pub accepted-reading : Accepted ≡ answerOf (parsePlan s) → _≡_ {A = Reading} (record { answer = Accepted; head = h; places = held }) (readingOf (parsePlan s))
+  accepted-reading a = accepted-by (parsePlan s) (sym (w .is)) a
+
+-- a book whose answer is a refusal is read as that refusal
+refused-as : (x : Refusal) (p : Parsed) → Refused x ≡ answerOf p → readingOf (refused x) ≡ readingOf p
+refused-as x (accepted h es) e = absurd (never-both x (sym e))
+refused-as x (refused y) e = let same : x ≡ y = cc in ap (λ q. readingOf (refused q)) same
+
+pub refused-reading : (s : List ℕ) (x : Refusal) → Refused x ≡ answerOf (parsePlan s) → readingOf (refused x) ≡ readingOf (parsePlan s)
+refused-reading s x e = refused-as x (parsePlan s) e

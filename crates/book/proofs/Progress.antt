@@ -1,4 +1,4 @@
--- The loop of `shape_of`: the places so far, in front of what the rest of the book gives, are those of the whole book.
+-- The loop of `read`: the places so far, in front of what the rest of the book gives, are those of the whole book.
 use mathlib.Core.Path.{_≡_, refl, sym, ap, _∙_}
 use mathlib.Core.Bool.{Bool}
 use mathlib.Core.List.{List, [], _∷_, _++_}
@@ -23,11 +23,9 @@ use Rattle.book.specs.declared.Walk.{Walk}
 use Rattle.book.specs.declared.Step.the-variants as step
 use Rattle.book.specs.declared.Stop.the-variants as stop
 use Rattle.book.specs.declared.Run.{Run}
-use Rattle.book.specs.declared.Found.the-variants.{Whole}
-use Rattle.book.specs.declared.Shape.{Shape}
 use Rattle.book.specs.Parse.{start, begun, passed, stepOf, Rest, proceed, restFrom, isGrouped, restOf}
 use Rattle.book.specs.Reading.{padded}
-use Rattle.book.specs.Shape.{refusing, shapeBy, shapeOf, Passes, none, more, Runs}
+use Rattle.book.specs.Shape.{whole, broken, shapeBy, shapeOf, Passes, none, more, Runs}
 use Rattle.book.proofs.Taken.{record-long, head-grouped, TookRoute, TookCorner, step-took}
 use Rattle.book.proofs.Summary.{
   Summary,
@@ -73,7 +71,7 @@ else-head (rec.Corner x y) t = tt
 else-head (rec.End total) t = tt
 else-head rec.Other t = tt
 
-refused-by : (g : Record) (k : Rest) → NotHead g → refusing (NotWhole 0) ≡ shapeBy g k
+refused-by : (g : Record) (k : Rest) → NotHead g → broken (NotWhole 0) ≡ shapeBy g k
 unfolding shapeBy
 refused-by (rec.Head h) k n = absurd n
 refused-by (rec.Route q number meets said centre) k n = refl
@@ -81,7 +79,7 @@ refused-by (rec.Corner x y) k n = refl
 refused-by (rec.End total) k n = refl
 refused-by rec.Other k n = refl
 
-pub first-refused : (s : List ℕ) (g : Record) → recordOf s ≡ g → NotHead g → refusing (NotWhole 0) ≡ shapeOf s
+pub first-refused : (s : List ℕ) (g : Record) → recordOf s ≡ g → NotHead g → broken (NotWhole 0) ≡ shapeOf s
 unfolding shapeOf
 first-refused s g e n = refused-by g (restOf s) n ∙ ap (λ q. shapeBy q (restOf s)) (sym e)
 
@@ -131,7 +129,7 @@ module _ (s held : List ℕ) (at : ℕ) (w : Walk) (h : SoFar s held at w) where
 
     pub so-far-route : SoFar s (set held (w .routes) at) (at + routeSize (w .grouped)) (begun w)
     so-far-route =
-        let (f, l, whole) = stepped in
+        let (f, l, rests) = stepped in
         let fits = took-route in
         let size = routeSize (w .grouped) in
         let (some, most) = route-size (w .grouped) in
@@ -151,7 +149,7 @@ module _ (s held : List ℕ) (at : ℕ) (w : Walk) (h : SoFar s held at w) where
               ∙ sym (after-more (h .before) at (summary (w .grouped) (at + size) (restFrom f (at + size) (begun w) (drop size (drop at s)))))
               ∙ ap (after (h .before))
               (sym (route-summary (w .grouped) at number meets said centre (restFrom f (at + size) (begun w) (drop size (drop at s)))))
-              ∙ (rw e at whole);
+              ∙ (rw e at rests);
         }
 
     -- fewer bytes are left
@@ -162,7 +160,7 @@ module _ (s held : List ℕ) (at : ℕ) (w : Walk) (h : SoFar s held at w) where
   module _ (c : Corner) (e : stepOf at w (drop at s) ≡ step.Corner c) where
     so-far-corner : SoFar s held (at + 9) (passed w c)
     so-far-corner =
-        let (f, l, whole) = stepped in
+        let (f, l, rests) = stepped in
         let fits = took-corner s at w c e in
         record {
           few = h .few;
@@ -176,7 +174,7 @@ module _ (s held : List ℕ) (at : ℕ) (w : Walk) (h : SoFar s held at w) where
           places = h .places;
           rest =
               ap (λ (b : List ℕ). after (h .before) (summary (w .grouped) (at + 9) (restFrom f (at + 9) (passed w c) b))) (sym (drop-drop 9 at s))
-              ∙ ap (after (h .before)) (sym (corner-summary (w .grouped) at c (restFrom f (at + 9) (passed w c) (drop 9 (drop at s))))) ∙ (rw e at whole);
+              ∙ ap (after (h .before)) (sym (corner-summary (w .grouped) at c (restFrom f (at + 9) (passed w c) (drop 9 (drop at s))))) ∙ (rw e at rests);
         }
 
   -- a place fits its word
@@ -186,23 +184,23 @@ module _ (s held : List ℕ) (at : ℕ) (w : Walk) (h : SoFar s held at w) where
   -- the shape of the whole book, from what the record at hand leads to
   shape-is : (hd : Head) (k : Summary) → recordOf s ≡ rec.Head hd → k ≡ summary (isGrouped s) 19 (restOf s) → shaped hd k ≡ shapeOf s
   unfolding shapeOf
-  shape-is hd k e whole =
-      ap (shaped hd) (whole ∙ ap (λ (g : Bool). summary g 19 (restOf s)) (head-grouped s hd e)) ∙ shape-shaped hd (restOf s)
+  shape-is hd k e rests =
+      ap (shaped hd) (rests ∙ ap (λ (g : Bool). summary g 19 (restOf s)) (head-grouped s hd e)) ∙ shape-shaped hd (restOf s)
       ∙ ap (λ g. shapeBy g (restOf s)) (sym e)
 
   pub so-far-end : (hd : Head) (total : ℕ) → recordOf s ≡ rec.Head hd → stepOf at w (drop at s) ≡ step.End total
-      → _≡_ {A = Shape} (record { found = Whole hd; count = w .routes; total = total; places = set held (w .routes) at }) (shapeOf s)
+      → whole hd (w .routes) total (set held (w .routes) at) ≡ shapeOf s
   so-far-end hd total e t =
-      let (f, l, whole) = stepped in
+      let (f, l, rests) = stepped in
       let n : w .routes ≡ pred (length (h .before ++ (at ∷ []))) = sym (ap pred (length-append (h .before) (at ∷ []) ∙ add-one (length (h .before))) ∙ h .many) in
       let l : set held (w .routes) at ≡ padded (h .before ++ (at ∷ [])) = ap (λ (m : List ℕ). set m (w .routes) at) (h .places) ∙ padded-more (h .before) (w .routes) at (h .many) (omega (arith, h .few)) in
-      (λ i. record { found = Whole hd; count = n i; total = total; places = l i })
-      ∙ shape-is hd (found (h .before ++ (at ∷ [])) total) e (ap (after (h .before)) (sym (end-summary (w .grouped) at total)) ∙ (rw t at whole))
+      (λ i. whole hd (n i) total (l i))
+      ∙ shape-is hd (found (h .before ++ (at ∷ [])) total) e (ap (after (h .before)) (sym (end-summary (w .grouped) at total)) ∙ (rw t at rests))
 
-  pub so-far-refused : (hd : Head) (x : Refusal) → recordOf s ≡ rec.Head hd → stepOf at w (drop at s) ≡ step.Refuse x → refusing x ≡ shapeOf s
+  pub so-far-refused : (hd : Head) (x : Refusal) → recordOf s ≡ rec.Head hd → stepOf at w (drop at s) ≡ step.Refuse x → broken x ≡ shapeOf s
   so-far-refused hd x e t =
-      let (f, l, whole) = stepped in
-      shape-is hd (halted x) e (rw t at whole)
+      let (f, l, rests) = stepped in
+      shape-is hd (halted x) e (rw t at rests)
 
 -- ---- corners that are taken one behind the other
 

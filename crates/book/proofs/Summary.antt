@@ -1,4 +1,4 @@
--- What the loop of `shape_of` has to know of the rest of a book: the places of the routes and of the end, and the end's total.
+-- What the loop of `read` has to know of the rest of a book: the places of the routes and of the end, and the end's total.
 use mathlib.Core.Path.{_≡_, refl, sym, ap, _∙_}
 use mathlib.Core.Bool.{Bool}
 use mathlib.Core.List.{List, [], _∷_, _++_, append-assoc}
@@ -13,11 +13,9 @@ use Rattle.plan.specs.Records.{routeSize}
 use Rattle.plan.specs.Plan.{Entry}
 use Rattle.records.specs.declared.Record.the-variants as rec
 use Rattle.book.specs.declared.Corner.{Corner}
-use Rattle.book.specs.declared.Found.the-variants.{Whole}
-use Rattle.book.specs.declared.Shape.{Shape}
 use Rattle.book.specs.Parse.{Rest, rest, stopped, withCorner, withRoute, entriesOf, behind}
 use Rattle.book.specs.Reading.{places, padded}
-use Rattle.book.specs.Shape.{refusing, shapeBy}
+use Rattle.book.specs.Shape.{Shape, whole, broken, shapeBy}
 
 -- ---- the places that are still to come
 
@@ -62,8 +60,8 @@ module _ (g : Bool) (at : ℕ) where
 -- ---- the shape, from the places
 
 abbrev pub shaped : Head → Summary → Shape
-shaped h (found l total) = record { found = Whole h; count = pred (length l); total = total; places = padded l }
-shaped h (halted x) = refusing x
+shaped h (found l total) = whole h (pred (length l)) total (padded l)
+shaped h (halted x) = broken x
 
 -- there is one place more than routes
 pub length-places : (g : Bool) (at : ℕ) (es : List Entry) → length (places g at es) ≡ suc (length es)
@@ -73,7 +71,7 @@ length-places g at (e ∷ es) = ap suc (length-places g (behind g at e) es)
 pub shape-shaped : (h : Head) (k : Rest) → shaped h (summary (h .grouped) 19 k) ≡ shapeBy (rec.Head h) k
 unfolding shapeBy
 shape-shaped h (rest cs ts total) =
-    ap (λ (n : ℕ). record { found = Whole h; count = pred n; total = total; places = padded (places (h .grouped) (19 + 9 * length cs) (entriesOf ts)) })
+    ap (λ (n : ℕ). whole h (pred n) total (padded (places (h .grouped) (19 + 9 * length cs) (entriesOf ts))))
     (length-places (h .grouped) (19 + 9 * length cs) (entriesOf ts) ∙ ap suc (length-map ts (λ t. t .entry)))
 shape-shaped h (stopped x) = refl
 

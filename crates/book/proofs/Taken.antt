@@ -7,7 +7,7 @@ use native.Mathlib.Omega.{arith}
 use lib.Dec.{ltb, leb, eqb}
 use lib.ListN.{length}
 use borrow.Author.Tests.{ltb-false, leb-false, eqb-false, not-false}
-use Rattle.job.specs.Fields.{biasedOf}
+use Rattle.job.specs.Fields.{word2, biasedOf}
 use Rattle.job.proofs.Decoded.{by-test}
 use Rattle.network.proofs.Tests.{neither}
 use Rattle.plan.specs.declared.Head.{Head}
@@ -22,11 +22,11 @@ use Rattle.book.specs.declared.Step.the-variants as step
 use Rattle.book.specs.Parse.{inRange, noTurn, cornerStep, mixed, stepBy, stepOf, isGrouped}
 use Rattle.book.proofs.Tests.{not-mixed}
 
--- ---- a record is as long as its kind says, and a head's kind tells the set of kinds
+-- ---- a record is as long as its kind says; a head's kind tells the set of kinds, and the corners of a route stand 5 bytes behind its kind
 
 abbrev pub Long : List ℕ → Record → Type 0
 Long b (rec.Head h) = (19 ≤ length b) × (isGrouped b ≡ h .grouped)
-Long b (rec.Route g number meets corners centre) = routeSize g ≤ length b
+Long b (rec.Route g number meets corners centre) = (routeSize g ≤ length b) × (corners ≡ word2 b 5)
 Long b (rec.Corner x y) = 9 ≤ length b
 Long b (rec.End total) = 3 ≤ length b
 Long b rec.Other = Unit {0}
@@ -40,8 +40,8 @@ decoded-long kind b =
     let P = Long (kind ∷ b) in
     by-test P (eqb kind 0x51) (λ t. whole-long kind 18 b _ (λ l. (omega arith, t)))
     (λ t. by-test P (eqb kind 0x50) (λ _. whole-long kind 18 b _ (λ l. (omega arith, t)))
-    (λ _. by-test P (eqb kind 0x4F) (λ _. whole-long kind 8 b _ (λ l. omega arith))
-    (λ _. by-test P (eqb kind 0x4E) (λ _. whole-long kind 6 b _ (λ l. omega arith))
+    (λ _. by-test P (eqb kind 0x4F) (λ _. whole-long kind 8 b _ (λ l. (omega arith, refl)))
+    (λ _. by-test P (eqb kind 0x4E) (λ _. whole-long kind 6 b _ (λ l. (omega arith, refl)))
     (λ _. by-test P (eqb kind 0x43) (λ _. whole-long kind 8 b _ (λ l. omega arith))
     (λ _. by-test P (eqb kind 0x5A) (λ _. whole-long kind 2 b _ (λ l. omega arith)) (λ _. tt))))))
 
@@ -94,7 +94,7 @@ took-by at w b (rec.Route g number meets said centre) l =
     (λ k.
     let (kinds, few) = neither (mixed g (w .grouped)) (leb 32 (w .routes)) k in
     let same = not-mixed g (w .grouped) kinds in
-    record { is = ap (λ q. rec.Route q number meets said centre) same; long = rw same at l; room = leb-false 32 (w .routes) few })
+    record { is = ap (λ q. rec.Route q number meets said centre) same; long = rw same at (l .0); room = leb-false 32 (w .routes) few })
 took-by at w b (rec.Corner x y) l =
     let P = Took b w (rec.Corner x y) in
     let c : Corner = record { x = biasedOf x; y = biasedOf y } in

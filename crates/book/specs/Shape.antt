@@ -2,10 +2,11 @@
 -- Assumes nothing.
 use Prim.Native.Nat.{ℕ, _+_, _*_}
 use mathlib.Core.Path.{_≡_}
-use mathlib.Core.List.{List, []}
+use mathlib.Core.List.{List}
 use lib.ListN.{length, drop}
 use Rattle.refusal.specs.declared.Refusal.{Refusal}
 use Rattle.refusal.specs.declared.Refusal.the-variants.{NotWhole}
+use Rattle.plan.specs.declared.Head.{Head}
 use Rattle.records.specs.declared.Record.{Record}
 use Rattle.records.specs.declared.Record.the-variants as rec
 use Rattle.records.specs.Records.{recordOf}
@@ -16,34 +17,32 @@ use Rattle.book.specs.declared.Step.the-variants as step
 use Rattle.book.specs.declared.Stop.{Stop}
 use Rattle.book.specs.declared.Stop.the-variants as stop
 use Rattle.book.specs.declared.Run.{Run}
-use Rattle.book.specs.declared.Found.the-variants.{Whole, Refused}
-use Rattle.book.specs.declared.Shape.{Shape}
-use Rattle.book.specs.Parse.{passed, stepOf, Rest, rest, stopped, entriesOf, restOf}
+use Rattle.book.specs.declared.Answer.{Answer}
+use Rattle.book.specs.declared.Answer.the-variants.{Accepted, Refused}
+use Rattle.book.specs.Parse.{passed, stepOf, Rest, rest, stopped, entriesOf, restOf, Parsed, accepted, refused}
 use Rattle.book.specs.Reading.{places, padded}
 
-abbrev pub refusing : Refusal → Shape
-refusing x = record { found = Refused x; count = 0; total = 0; places = padded [] }
+-- a head with whole records behind it: how many routes, the end's total, and where each route and the end stand; or the first of the refusals 12, 8 and 13
+pub data Shape : Type 0 where
+  whole : Head → (count total : ℕ) (places : List ℕ) → Shape
+  broken : Refusal → Shape
 
 -- by the first record and the records behind it; the routes stand behind the corners that are left of the route at hand
 unfoldable pub shapeBy : Record → Rest → Shape
-shapeBy (rec.Head h) (rest cs ts total) =
-    record { found = Whole h; count = length ts; total = total; places = padded (places (h .grouped) (19 + 9 * length cs) (entriesOf ts)) }
-shapeBy (rec.Head h) (stopped x) = refusing x
-shapeBy (rec.Route grouped number meets said centre) k = refusing (NotWhole 0)
-shapeBy (rec.Corner x y) k = refusing (NotWhole 0)
-shapeBy (rec.End total) k = refusing (NotWhole 0)
-shapeBy rec.Other k = refusing (NotWhole 0)
+shapeBy (rec.Head h) (rest cs ts total) = whole h (length ts) total (padded (places (h .grouped) (19 + 9 * length cs) (entriesOf ts)))
+shapeBy (rec.Head h) (stopped x) = broken x
+shapeBy (rec.Route grouped number meets said centre) k = broken (NotWhole 0)
+shapeBy (rec.Corner x y) k = broken (NotWhole 0)
+shapeBy (rec.End total) k = broken (NotWhole 0)
+shapeBy rec.Other k = broken (NotWhole 0)
 
 unfoldable pub shapeOf : List ℕ → Shape
 shapeOf book = shapeBy (recordOf book) (restOf book)
 
--- the number of corners that a route record says
-abbrev pub saidOf : Record → ℕ
-saidOf (rec.Route grouped number meets corners centre) = corners
-saidOf (rec.Head h) = 0
-saidOf (rec.Corner x y) = 0
-saidOf (rec.End total) = 0
-saidOf rec.Other = 0
+-- the answer alone
+abbrev pub answerOf : Parsed → Answer
+answerOf (accepted h es) = Accepted
+answerOf (refused x) = Refused x
 
 -- from a place on, with what is known there, corners are taken up to another place
 pub data Passes (s : List ℕ) (at : ℕ) (w : Walk) : (to : ℕ) → Walk → Type 0 where

@@ -11,7 +11,7 @@ ghost use lib.ListN.{getD, drop};
 ghost use Rattle.records.specs.Records.{recordOf};
 ghost use Rattle.plan.specs.Records.{routeSize};
 ghost use Rattle.book.specs.Parse.{refused, isGrouped, parsePlan};
-ghost use Rattle.book.specs.Shape.{saidOf, shapeOf};
+ghost use Rattle.book.specs.Shape.{whole, shapeOf, answerOf};
 ghost use Rattle.book.specs.Reading.{figuresOf, routeOf, cornerOf, readingOf, routeBy, cornerBy};
 
 // What reading says of a book.
@@ -93,20 +93,6 @@ pub struct Run {
     pub stop: Stop,
 }
 
-// A head with whole records behind it, or the first of the refusals 12, 8 and 13.
-pub enum Found {
-    Whole(Head),
-    Refused(Refusal),
-}
-
-// What the records say before the counts are compared: the number of routes, the end's total, and where each route and the end stand.
-pub struct Shape {
-    pub found: Found,
-    pub count: usize,
-    pub total: u32,
-    pub places: [u32; 33],
-}
-
 fn wide(x: u32) -> usize
     ensures { λ r. ⌜ (r ≡ x) × (r < 4294967296) ⌝ }
 {
@@ -142,24 +128,6 @@ fn refuse(refusal: Refusal) -> Reading
     }
 }
 
-// The number of corners that the route record at a place says.
-fn said_at(book: &[u8], at: usize) -> u32
-    ensures { λ r. ⌜ r ≡ saidOf (recordOf (drop at (now (book .entry)))) ⌝ }
-{
-    let found = record_at(book, at);
-    let Record::Route {
-        grouped,
-        number,
-        meets,
-        corners,
-        centre,
-    } = found
-    else {
-        return 0;
-    };
-    corners
-}
-
 // The place of the end behind so many routes with so many corners in total.
 fn end_of(grouped: bool, routes: usize, corners: usize) -> usize
     requires { ⌜ (routes ≤ 32) × (corners < 4294967296) ⌝ }
@@ -171,48 +139,74 @@ fn end_of(grouped: bool, routes: usize, corners: usize) -> usize
     19 + 7 * routes + 9 * corners
 }
 
-// Compares the counts of a book that is whole, in the book's order.
-fn compare(book: &[u8], head: Head, shape: Shape) -> Reading
-    requires { ⌜ (shape ≡ shapeOf (now book)) × (shape .found ≡ Found.Whole head) ⌝ }
-    ensures { λ r. ⌜ r ≡ readingOf (parsePlan (now (book .entry))) ⌝ }
+// Compares the counts of a book that is whole, in the book's order. A route record stands at each place, so its corners are looked up there at once.
+fn compare(book: &[u8], head: Head, places: &[u32; 33], n: usize, total: u32) -> Answer
+    requires { ⌜ whole head n total (now places) ≡ shapeOf (now book) ⌝ }
+    ensures { λ r. ⌜ r ≡ answerOf (parsePlan (now (book .entry))) ⌝ }
 {
-    let n = shape.count;
     let size = records::route_size(head.grouped);
     if wide(head.runs) != n {
-        return refuse(Refusal::Miscounted(0));
+        return Answer::Refused(Refusal::Miscounted(0));
     }
     let mut i: usize = 0;
     while i < n {
-        let at = wide(shape.places[i]);
-        let end = wide(shape.places[i + 1]);
-        let said = wide(said_at(book, at));
+        let at = wide(places[i]);
+        let end = wide(places[i + 1]);
+        let said = wide(job::le16(book, at + 5));
         if (end == at + size) | !(end == at + size + 9 * said) {
-            return refuse(Refusal::Miscounted(at));
+            return Answer::Refused(Refusal::Miscounted(at));
         }
         i += 1;
     }
-    let total = wide(shape.total);
-    let end = wide(shape.places[n]);
-    if end != end_of(head.grouped, n, total) {
-        return refuse(Refusal::Miscounted(end));
+    let end = wide(places[n]);
+    if end != end_of(head.grouped, n, wide(total)) {
+        return Answer::Refused(Refusal::Miscounted(end));
     }
-    let places = shape.places;
-    Reading {
-        answer: Answer::Accepted,
-        head,
-        places,
-    }
+    Answer::Accepted
 }
 
-// Reads a plan book, for every list of bytes.
+// Reads a plan book, for every list of bytes: the records front to back, then their counts. The places stand where they are gathered until they are given:
+// handed on, they would be copied.
 pub fn read(book: &[u8]) -> Reading
     ensures { λ r. ⌜ r ≡ readingOf (parsePlan (now (book .entry))) ⌝ }
 {
-    let shape = scan::shape_of(book);
-    let found = shape.found;
-    match found {
-        Found::Refused(refusal) => refuse(refusal),
-        Found::Whole(head) => compare(book, head, shape),
+    let first = records::first_record(book);
+    let Record::Head(head) = first else {
+        return refuse(Refusal::NotWhole(0));
+    };
+    let mut places = [0u32; 33];
+    let mut at: usize = 19;
+    let mut w = steps::start(head.grouped);
+    loop {
+        let run = scan::run_from(book, at, w);
+        let walk = run.walk;
+        let stop = run.stop;
+        let n = walk.routes;
+        match stop {
+            Stop::Route => {
+                places[n] = run.at as u32;
+                w = steps::begin(walk);
+                at = run.at + records::route_size(walk.grouped);
+            }
+            Stop::End(total) => {
+                places[n] = run.at as u32;
+                match compare(book, head, &places, n, total) {
+                    Answer::Accepted => {
+                        return Reading {
+                            answer: Answer::Accepted,
+                            head,
+                            places,
+                        };
+                    }
+                    Answer::Refused(miscounted) => {
+                        return refuse(miscounted);
+                    }
+                }
+            }
+            Stop::Refuse(refusal) => {
+                return refuse(refusal);
+            }
+        }
     }
 }
 

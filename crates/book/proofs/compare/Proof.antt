@@ -1,15 +1,12 @@
 -- `book::compare` meets its contract. The invariant: the counts from route i on decide what all counts decide.
 use mathlib.Core.Path.{sym, ap, _∙_}
-use Prim.Native.Nat.{ℕ, _-_, _≤_}
+use Prim.Native.Nat.{ℕ, _+_, _-_, _≤_}
 use native.Mathlib.Omega.{arith}
-use lib.ListN.{drop}
 use denote.Ref.{now}
 use borrow.Author.Needs.{needs}
 use Rattle.refusal.specs.declared.Refusal.the-variants.{Miscounted}
-use Rattle.records.specs.Records.{recordOf}
-use Rattle.book.specs.Parse.{refused}
-use Rattle.book.specs.Reading.{readingOf}
-use Rattle.book.specs.Shape.{saidOf}
+use Rattle.job.specs.Fields.{word2}
+use Rattle.book.specs.declared.Answer.the-variants.{Refused}
 use Rattle.book.proofs.Counts.{
   WholeBook,
   whole-book,
@@ -18,6 +15,7 @@ use Rattle.book.proofs.Counts.{
   runs-wrong,
   comparing-start,
   small,
+  said-room,
   compared-wrong,
   compared-on,
   few-routes,
@@ -29,14 +27,14 @@ use Rattle.book.proofs.compare.Statement.{statement}
 use Rattle.book.proofs.compare.Tie as tie
 
 abbrev Inv-loop : tie.InvT-loop
-Inv-loop book head shape n size i₀ i = (i ≤ n) × ((w : WholeBook book shape head) → Comparing w i)
+Inv-loop book head places n total size i₀ i = (i ≤ n) × ((w : WholeBook book head n total places) → Comparing w i)
 
 abbrev μ-loop : tie.MeasureT-loop
-μ-loop book head shape n size i₀ i = n - i
+μ-loop book head places n total size i₀ i = n - i
 
 -- the book that is whole, from where the function starts
-whole : (c : tie.Start Inv-loop μ-loop) → WholeBook (now (c .args .book)) (c .args .t3) (c .args .head)
-whole c = whole-book (now (c .args .book)) (c .args .t3) (c .args .head) (c .pre)
+whole : (c : tie.Start Inv-loop μ-loop) → WholeBook (now (c .args .book)) (c .args .head) (c .args .n) (c .args .total) (now (c .args .places))
+whole c = whole-book (now (c .args .book)) (c .args .head) (c .args .n) (c .args .total) (now (c .args .places)) (c .pre)
 
 route-size-requires : tie.Need-route-size-requires Inv-loop μ-loop
 route-size-requires c κs = search needs
@@ -44,12 +42,8 @@ route-size-requires c κs = search needs
 wide-requires : tie.Need-wide-requires Inv-loop μ-loop
 wide-requires c κs = search needs
 
-refuse-requires : tie.Need-refuse-requires Inv-loop μ-loop
-refuse-requires c κs = search needs
-
 returns : tie.Need-returns Inv-loop μ-loop
-returns c =
-    c .refuse .ensures ∙ runs-wrong (whole (c .before .before .before .before .before)) (λ z. c .before .if1 .taken (c .before .before .wide .ensures .0 ∙ z))
+returns c = runs-wrong (whole (c .before .before .before .before)) (λ z. c .if1 .taken (c .before .wide .ensures .0 ∙ z))
 
 loop-holds : tie.Need-loop-holds Inv-loop μ-loop
 loop-holds c = (omega arith, λ w. comparing-start w)
@@ -75,8 +69,11 @@ element-copy-out-wide-2 c = omega (arith, small (whole (c .before .before .befor
 wide-requires-3 : tie.Need-wide-requires-3 Inv-loop μ-loop
 wide-requires-3 c κs = search needs
 
-said-at-requires : tie.Need-said-at-requires Inv-loop μ-loop
-said-at-requires c κs = search needs
+add-le16 : tie.Need-add-le16 Inv-loop μ-loop
+add-le16 c = record { fits = omega (arith, c .before .before .wide2 .ensures .1) }
+
+le16-requires : tie.Need-le16-requires Inv-loop μ-loop
+le16-requires c κs = omega (arith, said-room (whole (c .before .before .before .before .before .before .before .before .before .before)) _ (c .before .before .before .before .loop-test .taken), c .before .before .wide2 .ensures .0)
 
 wide-requires-4 : tie.Need-wide-requires-4 Inv-loop μ-loop
 wide-requires-4 c κs = search needs
@@ -93,21 +90,18 @@ mul-if2 c = record { fits = omega (arith, c .before .before .before .before .wid
 add-if2-3 : tie.Need-add-if2-3 Inv-loop μ-loop
 add-if2-3 c = record { fits = omega (arith, c .before .before .before .before .wide2 .ensures .1, c .wide4 .ensures .1, c .before .before .before .before .before .before .before .before .before .before .route-size .ensures .2) }
 
-refuse-requires-2 : tie.Need-refuse-requires-2 Inv-loop μ-loop
-refuse-requires-2 c κs = search needs
-
 returns-2 : tie.Need-returns-2 Inv-loop μ-loop
 returns-2 c =
-    let w = whole (c .before .before .before .before .before .before .before .before .before .before .before .before .before .before) in
-    let book = now (c .before .before .before .before .before .before .before .before .before .before .before .before .before .before .args .book) in
-    let size = c .before .before .before .before .before .before .before .before .before .before .before .before .route-size .ensures .0 in
-    let at = c .before .before .before .before .before .before .wide2 .ensures .0 in
-    let end = c .before .before .before .before .wide3 .ensures .0 in
-    let said = c .before .before .wide4 .ensures .0 in
-    c .refuse2 .ensures ∙ ap (λ (k : ℕ). readingOf (refused (Miscounted k))) at
-    ∙ compared-wrong w _ (c .before .before .before .before .before .before .before .before .loop-test .taken) _ (c .before .before .before .said-at .ensures ∙ ap (λ (k : ℕ). saidOf (recordOf (drop k book))) at)
-    ((λ k. byPlaces (sym size k) (sym at k) (sym end k) (sym said k)) ∙ c .before .if2 .taken)
-    (sym (c .before .before .before .before .before .before .before .before .before .before .before .wide .ensures .0) ∙ c .before .before .before .before .before .before .before .before .before .before .if1 .left) (c .before .before .before .before .before .before .before .before .before .loop .inv .1 w)
+    let w = whole (c .before .before .before .before .before .before .before .before .before .before .before .before .before) in
+    let book = now (c .before .before .before .before .before .before .before .before .before .before .before .before .before .args .book) in
+    let size = c .before .before .before .before .before .before .before .before .before .before .before .route-size .ensures .0 in
+    let at = c .before .before .before .before .before .wide2 .ensures .0 in
+    let end = c .before .before .before .wide3 .ensures .0 in
+    let said = c .before .wide4 .ensures .0 in
+    let there = c .before .before .le16 .ensures ∙ ap (λ (k : ℕ). word2 book (k + 5)) at in
+    ap (λ (k : ℕ). Refused (Miscounted k)) at
+    ∙ compared-wrong w _ (c .before .before .before .before .before .before .before .loop-test .taken) _ there ((λ k. byPlaces (sym size k) (sym at k) (sym end k) (sym said k)) ∙ c .if2 .taken)
+    (sym (c .before .before .before .before .before .before .before .before .before .before .wide .ensures .0) ∙ c .before .before .before .before .before .before .before .before .before .if1 .left) (c .before .before .before .before .before .before .before .before .loop .inv .1 w)
 
 add-i : tie.Need-add-i Inv-loop μ-loop
 add-i c = record { fits = omega (arith, small (whole (c .before .before .before .before .before .before .before .before .before .before .before .before .before)) _ (c .before .before .before .before .before .before .before .loop-test .taken)) }
@@ -121,48 +115,44 @@ loop-again c =
     let size = c .before .before .before .before .before .before .before .before .before .before .before .route-size .ensures .0 in
     let at = c .before .before .before .before .before .wide2 .ensures .0 in
     let end = c .before .before .before .wide3 .ensures .0 in
-    let said = c .before .wide4 .ensures .0 in (
+    let said = c .before .wide4 .ensures .0 in
+    let there = c .before .before .le16 .ensures ∙ ap (λ (k : ℕ). word2 book (k + 5)) at in (
       omega (arith, c .before .before .before .before .before .before .before .loop-test .taken),
-      λ w. compared-on w _ (c .before .before .before .before .before .before .before .loop-test .taken) _ (c .before .before .said-at .ensures ∙ ap (λ (k : ℕ). saidOf (recordOf (drop k book))) at)
-          ((λ k. byPlaces (sym size k) (sym at k) (sym end k) (sym said k)) ∙ c .if2 .left) (c .before .before .before .before .before .before .before .before .loop .inv .1 w),
+      λ w. compared-on w _ (c .before .before .before .before .before .before .before .loop-test .taken) _ there ((λ k. byPlaces (sym size k) (sym at k) (sym end k) (sym said k)) ∙ c .if2 .left) (c .before .before .before .before .before .before .before .before .loop .inv .1 w),
     )
+
+mul-wide-3 : tie.Need-mul-wide-3 Inv-loop μ-loop
+mul-wide-3 c = record { fits = omega (arith, few-routes (whole (c .before .before .before .before .before .before))) }
+
+element-copy-out-wide-3 : tie.Need-element-copy-out-wide-3 Inv-loop μ-loop
+element-copy-out-wide-3 c = omega (arith, few-routes (whole (c .before .before .before .before .before .before)))
 
 wide-requires-5 : tie.Need-wide-requires-5 Inv-loop μ-loop
 wide-requires-5 c κs = search needs
-
-mul-wide-3 : tie.Need-mul-wide-3 Inv-loop μ-loop
-mul-wide-3 c = record { fits = omega (arith, few-routes (whole (c .before .before .before .before .before .before .before))) }
-
-element-copy-out-wide-3 : tie.Need-element-copy-out-wide-3 Inv-loop μ-loop
-element-copy-out-wide-3 c = omega (arith, few-routes (whole (c .before .before .before .before .before .before .before)))
 
 wide-requires-6 : tie.Need-wide-requires-6 Inv-loop μ-loop
 wide-requires-6 c κs = search needs
 
 end-of-requires : tie.Need-end-of-requires Inv-loop μ-loop
-end-of-requires c κs = (few-routes (whole (c .before .before .before .before .before .before .before .before .before)), c .before .before .wide5 .ensures .1)
-
-refuse-requires-3 : tie.Need-refuse-requires-3 Inv-loop μ-loop
-refuse-requires-3 c κs = search needs
+end-of-requires c κs = (few-routes (whole (c .before .before .before .before .before .before .before .before .before)), c .wide6 .ensures .1)
 
 returns-3 : tie.Need-returns-3 Inv-loop μ-loop
 returns-3 c =
-    let w = whole (c .before .before .before .before .before .before .before .before .before .before .before .before) in
-    let total = c .before .before .before .before .before .wide5 .ensures .0 in
-    let end = c .before .before .before .wide6 .ensures .0 in
-    let runs = sym (c .before .before .before .before .before .before .before .before .before .wide .ensures .0) ∙ c .before .before .before .before .before .before .before .before .if1 .left in
-    let all = comparing-all w _ (c .before .before .before .before .before .before .before .loop .inv .0) (c .before .before .before .before .before .before .loop-test .left) (c .before .before .before .before .before .before .before .loop .inv .1 w) in
-    c .refuse3 .ensures ∙ ap (λ (k : ℕ). readingOf (refused (Miscounted k))) end
-    ∙ total-wrong w runs all (λ z. c .before .if3 .taken (omega (arith, z, total, end, c .before .before .end-of .ensures)))
+    let w = whole (c .before .before .before .before .before .before .before .before .before .before .before) in
+    let total = c .before .before .wide6 .ensures .0 in
+    let end = c .before .before .before .wide5 .ensures .0 in
+    let runs = sym (c .before .before .before .before .before .before .before .before .wide .ensures .0) ∙ c .before .before .before .before .before .before .before .if1 .left in
+    let all = comparing-all w _ (c .before .before .before .before .before .before .loop .inv .0) (c .before .before .before .before .before .loop-test .left) (c .before .before .before .before .before .before .loop .inv .1 w) in
+    ap (λ (k : ℕ). Refused (Miscounted k)) end ∙ total-wrong w runs all (λ z. c .if3 .taken (omega (arith, z, total, end, c .before .end-of .ensures)))
 
 returns-4 : tie.Need-returns-4 Inv-loop μ-loop
 returns-4 c =
-    let w = whole (c .before .before .before .before .before .before .before .before .before .before .before .before) in
-    let total = c .before .before .before .before .before .wide5 .ensures .0 in
-    let end = c .before .before .before .wide6 .ensures .0 in
-    let runs = sym (c .before .before .before .before .before .before .before .before .before .wide .ensures .0) ∙ c .before .before .before .before .before .before .before .before .if1 .left in
-    let all = comparing-all w _ (c .before .before .before .before .before .before .before .loop .inv .0) (c .before .before .before .before .before .before .loop-test .left) (c .before .before .before .before .before .before .before .loop .inv .1 w) in
-    all-right w runs all (omega (arith, c .before .if3 .left, total, end, c .before .before .end-of .ensures))
+    let w = whole (c .before .before .before .before .before .before .before .before .before .before .before) in
+    let total = c .before .before .wide6 .ensures .0 in
+    let end = c .before .before .before .wide5 .ensures .0 in
+    let runs = sym (c .before .before .before .before .before .before .before .before .wide .ensures .0) ∙ c .before .before .before .before .before .before .before .if1 .left in
+    let all = comparing-all w _ (c .before .before .before .before .before .before .loop .inv .0) (c .before .before .before .before .before .loop-test .left) (c .before .before .before .before .before .before .loop .inv .1 w) in
+    all-right w runs all (omega (arith, c .if3 .left, total, end, c .before .end-of .ensures))
 
 pub compare-spec : {M : Type 1} → statement M
 compare-spec =
@@ -172,7 +162,6 @@ compare-spec =
     μ-loop
     route-size-requires
     wide-requires
-    refuse-requires
     returns
     loop-holds
     mul-wide
@@ -182,22 +171,21 @@ compare-spec =
     mul-wide-2
     element-copy-out-wide-2
     wide-requires-3
-    said-at-requires
+    add-le16
+    le16-requires
     wide-requires-4
     add-if2
     add-if2-2
     mul-if2
     add-if2-3
-    refuse-requires-2
     returns-2
     add-i
     loop-less
     loop-again
-    wide-requires-5
     mul-wide-3
     element-copy-out-wide-3
+    wide-requires-5
     wide-requires-6
     end-of-requires
-    refuse-requires-3
     returns-3
     returns-4)
