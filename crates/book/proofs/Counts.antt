@@ -7,7 +7,6 @@ use native.Mathlib.Numerals.{add-one}
 use native.Mathlib.Omega.{arith}
 use lib.Dec.{eqb}
 use lib.ListN.{length, getD, drop, length-map, length-drop, drop-of-length-le}
-use lib.Seq.{getD-drop}
 use borrow.Author.Tests.{eq-eqb, ne-eqb, eqb-true, eqb-false, not-false}
 use Rattle.network.specs.Lists.{All}
 use Rattle.network.proofs.Tests.{neither, eqb-same}
@@ -18,6 +17,7 @@ use Rattle.plan.specs.Records.{routeSize}
 use Rattle.plan.specs.Plan.{Entry, totalCorners}
 use Rattle.plan.proofs.Length.{route-size}
 use Rattle.job.specs.Fields.{word2}
+use Rattle.job.proofs.There.{word2-there}
 use Rattle.records.specs.declared.Record.{Record}
 use Rattle.records.specs.declared.Record.the-variants as rec
 use Rattle.records.specs.Records.{recordOf}
@@ -43,7 +43,7 @@ use Rattle.book.specs.Parse.{
   parsePlan,
 }
 use Rattle.book.specs.Reading.{places, padded, readingOf}
-use Rattle.book.specs.Shape.{whole, broken, shapeBy, shapeOf, answerOf}
+use Rattle.book.specs.Shape.{whole, broken, shapeBy, shapeOf}
 use Rattle.book.proofs.Taken.{record-long, head-grouped}
 use Rattle.book.proofs.Places.{RoutesAt, Reads, rest-reads}
 use Rattle.book.proofs.Stands.{Stands, first-place, padded-place, placed}
@@ -54,6 +54,7 @@ use Rattle.book.proofs.Stands.{Stands, first-place, padded-place, place
 pub not-both : (x : Refusal) (h : Head) (es : List Entry) → refused x ≡ accepted h es → ⊥
 not-both x h es e = let z : _≡_ {A = ℕ} 0 1 = cc in omega arith
 
+-- nor is its answer
 never-both : (x : Refusal) → Accepted ≡ Refused x → ⊥
 never-both x e = let z : _≡_ {A = ℕ} 0 1 = cc in omega arith
 
@@ -117,6 +118,7 @@ pub record WholeBook (s : List ℕ) (h : Head) (n total : ℕ) (held : List ℕ)
   pub stand : RoutesAt s 19 (start (h .grouped)) told
   pub few : length told ≤ 32
 
+-- a whole book is not broken
 never-whole : (x : Refusal) (h : Head) (n total : ℕ) (held : List ℕ) → whole h n total held ≡ broken x → ⊥
 never-whole x h n total held e = let z : _≡_ {A = ℕ} 0 1 = cc in omega arith
 
@@ -152,6 +154,7 @@ module _ (s : List ℕ) where
     whole-by (rec.End last) k p reads e = absurd (never-whole _ h n total held e)
     whole-by rec.Other k p reads e = absurd (never-whole _ h n total held e)
 
+    -- the records of a book with this shape
     pub whole-book : whole h n total held ≡ shapeOf s → WholeBook s h n total held
     unfolding parsePlan shapeOf
     whole-book e = whole-by (recordOf s) (restOf s) refl head-reads e
@@ -191,12 +194,14 @@ pub Comparing : {s : List ℕ} {h : Head} {n total : ℕ} {held : List ℕ} → 
 Comparing {s} {h} {n} {total} {held} w i =
     counted (h .grouped) 19 (w .told) (lastly h (w .told) total) ≡ counted (h .grouped) (getD held i 0) (drop i (w .told)) (lastly h (w .told) total)
 
-refusing-is : (s : List ℕ) (x : Refusal) → parsePlan s ≡ refused x → Refused x ≡ answerOf (parsePlan s)
-refusing-is s x e = sym (ap answerOf e)
+-- the answer to a book that is refused
+refusing-is : (s : List ℕ) (x : Refusal) → parsePlan s ≡ refused x → Refused x ≡ readingOf (parsePlan s) .answer
+unfolding readingOf
+refusing-is s x e = sym (ap (λ p. readingOf p .answer) e)
 
 module _ {s : List ℕ} {h : Head} {n total : ℕ} {held : List ℕ} (w : WholeBook s h n total held) where
   -- the head's count differs
-  pub runs-wrong : (h .runs ≡ n → ⊥) → Refused (Miscounted 0) ≡ answerOf (parsePlan s)
+  pub runs-wrong : (h .runs ≡ n → ⊥) → Refused (Miscounted 0) ≡ readingOf (parsePlan s) .answer
   unfolding agreed
   runs-wrong d = refusing-is s _ (w .is ∙ simp (ne-eqb (h .runs) (length (w .told)) (λ z. d (z ∙ sym (w .count)))))
 
@@ -218,18 +223,15 @@ module _ {s : List ℕ} {h : Head} {n total : ℕ} {held : List ℕ} (w : WholeB
     small = omega (arith, w .count, w .few)
 
     -- the record of route i, whole
-    there : (routeSize (h .grouped) ≤ length (drop (getD held i 0) s)) × (stood .route .said ≡ word2 (drop (getD held i 0) s) 5)
+    there : (routeSize (h .grouped) ≤ length (drop (getD held i 0) s)) × (stood .route .said ≡ word2 (drop 1 (drop (getD held i 0) s)) 4)
     there = rw (stood .at .is) at (record-long (drop (getD held i 0) s))
 
-    -- the bytes in which it says its corners
+    -- the bytes in which it says its corners are there
     pub said-room : getD held i 0 + 6 < length s
     said-room = omega (arith, there .0, route-size (h .grouped), length-drop (getD held i 0) s)
 
     said-is : word2 s (getD held i 0 + 5) ≡ stood .route .said
-    said-is =
-        let at = getD held i 0 in
-        let e : at + 5 + 1 ≡ at + 6 = omega arith in
-        ap₂ (λ (a b : ℕ). a + 256 * b) (sym (getD-drop at s 5 0)) (ap (λ (k : ℕ). getD s k 0) e ∙ sym (getD-drop at s 6 0)) ∙ sym (there .1)
+    said-is = sym (there .1 ∙ word2-there s (getD held i 0) 4 (getD held i 0 + 5) (omega arith))
 
     module _ (said : ℕ) (is : said ≡ word2 s (getD held i 0 + 5)) where
       -- the test by the places is the test of the route
@@ -243,7 +245,7 @@ module _ {s : List ℕ} {h : Head} {n total : ℕ} {held : List ℕ} (w : WholeB
       next c = c ∙ ap (λ ts. counted (h .grouped) (getD held i 0) ts (lastly h (w .told) total)) (stood .here)
 
       pub compared-wrong : byPlaces (routeSize (h .grouped)) (getD held i 0) (getD held (i + 1) 0) said ≡ true
-          → h .runs ≡ n → Comparing w i → Refused (Miscounted (getD held i 0)) ≡ answerOf (parsePlan s)
+          → h .runs ≡ n → Comparing w i → Refused (Miscounted (getD held i 0)) ≡ readingOf (parsePlan s) .answer
       compared-wrong t runs c = refusing-is s _ (counting runs ∙ next c ∙ simp (sym tested ∙ t))
 
       pub compared-on : byPlaces (routeSize (h .grouped)) (getD held i 0) (getD held (i + 1) 0) said ≡ false → Comparing w i → Comparing w (i + 1)
@@ -279,21 +281,22 @@ module _ {s : List ℕ} {h : Head} {n total : ℕ} {held : List ℕ} (w : WholeB
         ∙ ap (λ (k : ℕ). getD (places (h .grouped) 19 (entriesOf (w .told))) k 0) m ∙ end-place (h .grouped) 19 (entriesOf (w .told))
         ∙ ap (λ (k : ℕ). 19 + routeSize (h .grouped) * k + 9 * totalCorners (entriesOf (w .told))) (sym m)
 
-    pub total-wrong : (getD held n 0 ≡ 19 + routeSize (h .grouped) * n + 9 * total → ⊥) → Refused (Miscounted (getD held n 0)) ≡ answerOf (parsePlan s)
+    pub total-wrong : (getD held n 0 ≡ 19 + routeSize (h .grouped) * n + 9 * total → ⊥) → Refused (Miscounted (getD held n 0)) ≡ readingOf (parsePlan s) .answer
     total-wrong d =
         refusing-is s _
         (at-end ∙ simp (ne-eqb total (totalCorners (entriesOf (w .told))) (λ z. d (ends ∙ ap (λ (m : ℕ). 19 + routeSize (h .grouped) * n + 9 * m) (sym z)))))
 
-    pub all-right : getD held n 0 ≡ 19 + routeSize (h .grouped) * n + 9 * total → Accepted ≡ answerOf (parsePlan s)
+    pub all-right : getD held n 0 ≡ 19 + routeSize (h .grouped) * n + 9 * total → Accepted ≡ readingOf (parsePlan s) .answer
+    unfolding readingOf
     all-right e =
         let t : total ≡ totalCorners (entriesOf (w .told)) = omega (arith, ends) in
         let right : parsePlan s ≡ accepted h (entriesOf (w .told)) = at-end ∙ simp (eq-eqb total (totalCorners (entriesOf (w .told))) t) in
-        sym (ap answerOf right)
+        sym (ap (λ p. readingOf p .answer) right)
 
   -- ---- the reading, by the answer
 
   -- a whole book that is accepted is read as its head and its places
-  accepted-by : (p : Parsed) → agreed h (w .told) total ≡ p → Accepted ≡ answerOf p
+  accepted-by : (p : Parsed) → agreed h (w .told) total ≡ p → Accepted ≡ readingOf p .answer
       → _≡_ {A = Reading} (record { answer = Accepted; head = h; places = held }) (readingOf p)
   unfolding readingOf
   accepted-by (accepted f es) e a =
@@ -305,13 +308,14 @@ module _ {s : List ℕ} {h : Head} {n total : ℕ} {held : List ℕ} (w : WholeB
       }
   accepted-by (refused x) e a = absurd (never-both x a)
 
-  pub accepted-reading : Accepted ≡ answerOf (parsePlan s) → _≡_ {A = Reading} (record { answer = Accepted; head = h; places = held }) (readingOf (parsePlan s))
+  pub accepted-reading : Accepted ≡ readingOf (parsePlan s) .answer → _≡_ {A = Reading} (record { answer = Accepted; head = h; places = held }) (readingOf (parsePlan s))
   accepted-reading a = accepted-by (parsePlan s) (sym (w .is)) a
 
 -- a book whose answer is a refusal is read as that refusal
-refused-as : (x : Refusal) (p : Parsed) → Refused x ≡ answerOf p → readingOf (refused x) ≡ readingOf p
+refused-as : (x : Refusal) (p : Parsed) → Refused x ≡ readingOf p .answer → readingOf (refused x) ≡ readingOf p
+unfolding readingOf
 refused-as x (accepted h es) e = absurd (never-both x (sym e))
 refused-as x (refused y) e = let same : x ≡ y = cc in ap (λ q. readingOf (refused q)) same
 
-pub refused-reading : (s : List ℕ) (x : Refusal) → Refused x ≡ answerOf (parsePlan s) → readingOf (refused x) ≡ readingOf (parsePlan s)
+pub refused-reading : (s : List ℕ) (x : Refusal) → Refused x ≡ readingOf (parsePlan s) .answer → readingOf (refused x) ≡ readingOf (parsePlan s)
 refused-reading s x e = refused-as x (parsePlan s) e

@@ -5,7 +5,7 @@ use mathlib.Core.List.{List, [], _∷_}
 use Prim.Native.Nat.{ℕ, _≤_, _<_}
 use native.Mathlib.Omega.{arith}
 use lib.Dec.{ltb, leb, eqb}
-use lib.ListN.{length}
+use lib.ListN.{length, drop}
 use borrow.Author.Tests.{ltb-false, leb-false, eqb-false, not-false}
 use Rattle.job.specs.Fields.{word2, biasedOf}
 use Rattle.job.proofs.Decoded.{by-test}
@@ -22,11 +22,11 @@ use Rattle.book.specs.declared.Step.the-variants as step
 use Rattle.book.specs.Parse.{inRange, noTurn, cornerStep, mixed, stepBy, stepOf, isGrouped}
 use Rattle.book.proofs.Tests.{not-mixed}
 
--- ---- a record is as long as its kind says; a head's kind tells the set of kinds, and the corners of a route stand 5 bytes behind its kind
+-- ---- a record is as long as its kind says; a head's kind tells the set of kinds, and a route tells its corners in the fifth and sixth byte of its body
 
 abbrev pub Long : List ℕ → Record → Type 0
 Long b (rec.Head h) = (19 ≤ length b) × (isGrouped b ≡ h .grouped)
-Long b (rec.Route g number meets corners centre) = (routeSize g ≤ length b) × (corners ≡ word2 b 5)
+Long b (rec.Route g number meets corners centre) = (routeSize g ≤ length b) × (corners ≡ word2 (drop 1 b) 4)
 Long b (rec.Corner x y) = 9 ≤ length b
 Long b (rec.End total) = 3 ≤ length b
 Long b rec.Other = Unit {0}

@@ -17,9 +17,7 @@ use Rattle.book.specs.declared.Step.the-variants as step
 use Rattle.book.specs.declared.Stop.{Stop}
 use Rattle.book.specs.declared.Stop.the-variants as stop
 use Rattle.book.specs.declared.Run.{Run}
-use Rattle.book.specs.declared.Answer.{Answer}
-use Rattle.book.specs.declared.Answer.the-variants.{Accepted, Refused}
-use Rattle.book.specs.Parse.{passed, stepOf, Rest, rest, stopped, entriesOf, restOf, Parsed, accepted, refused}
+use Rattle.book.specs.Parse.{passed, stepOf, Rest, rest, stopped, entriesOf, restOf}
 use Rattle.book.specs.Reading.{places, padded}
 
 -- a head with whole records behind it: how many routes, the end's total, and where each route and the end stand; or the first of the refusals 12, 8 and 13
@@ -38,11 +36,6 @@ shapeBy rec.Other k = broken (NotWhole 0)
 
 unfoldable pub shapeOf : List ℕ → Shape
 shapeOf book = shapeBy (recordOf book) (restOf book)
-
--- the answer alone
-abbrev pub answerOf : Parsed → Answer
-answerOf (accepted h es) = Accepted
-answerOf (refused x) = Refused x
 
 -- from a place on, with what is known there, corners are taken up to another place
 pub data Passes (s : List ℕ) (at : ℕ) (w : Walk) : (to : ℕ) → Walk → Type 0 where

@@ -11,7 +11,7 @@ ghost use lib.ListN.{getD, drop};
 ghost use Rattle.records.specs.Records.{recordOf};
 ghost use Rattle.plan.specs.Records.{routeSize};
 ghost use Rattle.book.specs.Parse.{refused, isGrouped, parsePlan};
-ghost use Rattle.book.specs.Shape.{whole, shapeOf, answerOf};
+ghost use Rattle.book.specs.Shape.{whole, shapeOf};
 ghost use Rattle.book.specs.Reading.{figuresOf, routeOf, cornerOf, readingOf, routeBy, cornerBy};
 
 // What reading says of a book.
@@ -142,7 +142,7 @@ fn end_of(grouped: bool, routes: usize, corners: usize) -> usize
 // Compares the counts of a book that is whole, in the book's order. A route record stands at each place, so its corners are looked up there at once.
 fn compare(book: &[u8], head: Head, places: &[u32; 33], n: usize, total: u32) -> Answer
     requires { ⌜ whole head n total (now places) ≡ shapeOf (now book) ⌝ }
-    ensures { λ r. ⌜ r ≡ answerOf (parsePlan (now (book .entry))) ⌝ }
+    ensures { λ r. ⌜ r ≡ readingOf (parsePlan (now (book .entry))) .answer ⌝ }
 {
     let size = records::route_size(head.grouped);
     if wide(head.runs) != n {

@@ -49,7 +49,7 @@ module _ (s : List ℕ) (p : ℕ) where
   byte-there i q e = getD-drop 1 (drop p s) i 0 ∙ getD-drop p s (1 + i) 0 ∙ ap (λ (j : ℕ). getD s j 0) (sym e)
 
   -- a number of two bytes in the body
-  word2-there : (i q : ℕ) → q ≡ p + (1 + i) → word2 (drop 1 (drop p s)) i ≡ word2 s q
+  pub word2-there : (i q : ℕ) → q ≡ p + (1 + i) → word2 (drop 1 (drop p s)) i ≡ word2 s q
   word2-there i q e = λ j. byte-there i q e j + 256 * byte-there (i + 1) (q + 1) (omega arith) j
 
   -- a number of four
