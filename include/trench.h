@@ -1,5 +1,5 @@
-/* The trench planner for C, the writer of its jobs and the reader of its plans. Link target/staticlib/libtrench.a, which
- * `rt staticlib trench` writes.
+/* The trench planner for C, the writer of its jobs, the reader of its plans, and the choice between two of them. Link
+ * target/staticlib/libtrench.a, which `rt staticlib trench` writes.
  *
  * Lengths and coordinates are in decimetres. Fields of both books are little-endian and not aligned; coordinates are 32-bit
  * two's complement. Each record is one byte of kind, then a body:
@@ -61,22 +61,25 @@ extern "C" {
 #define TRENCH_CORNER 2
 
 /* A call of any function needs no more stack than this, in bytes; most of it are the planner's 16,384 work words, and the
- * reader and the writer need far less. This figure is measured by the tests and not proved. */
+ * other functions need far less. This figure is measured by the tests and not proved. */
 #define TRENCH_STACK 131072
 
-/* The refusals, of jobs by trench_plan, of lists of runs by trench_job and of plan books by trench_read. Where several apply, the
- * answer is the first:
+/* The refusals, of jobs by trench_plan, of lists of runs by trench_job, of plan books by trench_read, and of a job and two plan
+ * books by trench_choose. Where several apply, the answer is the first:
  *
  *   job         2; then the records front to back, and within a record 4, 3, 5, 9, 7, 8, 6; last 11. No call answers -10: a
  *               job without runs is planned.
  *   list        3; 9; then the runs front to back, and within a run 7, 8; last 2.
  *   plan book   the records front to back, and within a record 12, 8, 13; 14 only where nothing else is wrong, in the book's
  *               order: the head's runs, each route's corners, the end's total.
+ *   choice      the job's 3 to 9 and 11 in the order above; then the first book's, as of a plan book, then 15, then 16; then the
+ *               second's likewise.
  *
  * The place of a job's and of a plan book's refusal is that of the kind byte of the record at fault, from 0. With 3 and 12 it is
  * the length where the bytes end behind a record that is no end; with 5 and 12 it is the byte after the end record where there is
  * one; with 2 and 11 it is 0. The place of a list's refusal is the index of the run at fault, from 0; with 3 it is the list's
- * length, with 9 it is 32, with 2 it is 0. */
+ * length, with 9 it is 32, with 2 it is 0. In a choice the job's refusals have the job's places, and a book's has the book: 1 for
+ * the first, 2 for the second. */
 enum trench_refusal {
     TRENCH_SHORT_WORK = 1,     /* work words under 16,384: never answered here, since the function has its own */
     TRENCH_SHORT_BUFFER = 2,   /* plan buffer under 40,960 bytes; job buffer shorter than 8 bytes plus 19 a run */
@@ -94,8 +97,13 @@ enum trench_refusal {
                                 * route of the older kind behind a head of the newer, or the other way round */
     TRENCH_NO_TURN = 13,       /* a corner equal to the one before it in its route, or sharing neither its x nor its y, or on
                                 * one row or one column with both of the two before it */
-    TRENCH_MISCOUNTED = 14     /* a head's runs, a route's corners or an end's total that differs from what it counts, or a
+    TRENCH_MISCOUNTED = 14,    /* a head's runs, a route's corners or an end's total that differs from what it counts, or a
                                 * route with no corner */
+    TRENCH_OTHER_JOB = 15,     /* a book of another job: its job number, its number of runs or its run numbers in order are not
+                                * the job's */
+    TRENCH_UNTRUE = 16         /* a book of the older kinds, or not true for the job: a route that is no Manhattan path of its run
+                                * on the job's grid, trench, saved or pits that are not those of its routes, or meets, groups
+                                * or centres that are not those of the job */
 };
 
 /* Plans a job.
@@ -150,8 +158,8 @@ size_t trench_job_place(uint32_t number, const int32_t *runs, size_t runs_len, c
  *
  * The functions below read a plan book. Each is lent the book alone, and some a few words for its answer. Every plan that
  * trench_plan wrote is read. Whose job it is, the store knows: trench, saved, pits, groups, run numbers, meets and centres are
- * given as they stand and not judged. A route may have one corner, where its run's two points coincide. Routes and corners are
- * counted from 0.
+ * given as they stand, and only trench_choose judges them. A route may have one corner, where its run's two points coincide.
+ * Routes and corners are counted from 0.
  *
  *     uint32_t places[TRENCH_PLACES], route[TRENCH_ROUTE];
  *     int32_t corner[TRENCH_CORNER];
@@ -201,6 +209,41 @@ size_t trench_route(const uint8_t *book, size_t book_len, const uint32_t *places
  * they are; else the answer is 0. */
 size_t trench_corner(const uint8_t *book, size_t book_len, const uint32_t *places, size_t places_len, size_t i, size_t j,
                      int32_t *corner, size_t corner_len);
+
+/* ---- one of two plans ---- */
+
+/* Chooses the plan book to stake from, as where a contractor sends a plan of the same job.
+ *
+ * Gives the book with less trench, 1 for the first or 2 for the second, and 1 where both have the same; or minus the refusal
+ * number, below 0. The book is the one that was lent: nothing is copied, and nothing is written.
+ *
+ * Chosen: both books are of the newer kinds and carry the job's number, its number of runs and its run numbers in order. Both are
+ * true for the job: every route runs from its run's first point to its second along survey lines and is as long as their Manhattan
+ * distance; trench, saved and pits are those of the routes; and meets, groups and centres are those of the job. Every plan that
+ * trench_plan writes for the job is true for it, and no true book has less trench: lent our plan first, the answer is 1 or a
+ * refusal.
+ * Refused: neither book is to be staked from.
+ *
+ *     int32_t chosen = trench_choose(job, job_len, ours, ours_len, theirs, theirs_len);
+ *     if (chosen > 0)
+ *         stake(chosen == 1 ? ours : theirs, chosen == 1 ? ours_len : theirs_len);
+ *     else
+ *         tell(-chosen, trench_choose_place(job, job_len, ours, ours_len, theirs, theirs_len));
+ *
+ * What the caller owes: a pointer points to as many bytes as its length says, and none is null, even where its length is 0. There
+ * is no other condition: any bytes may be given as a job and as a book, and any length; the three may overlap, or be the same,
+ * since nothing is written.
+ *
+ * All that is lent stays the caller's. The function keeps no pointer and no state, allocates nothing, does no input or output, and
+ * always returns. It may be called from several threads at once, for the same bytes too. */
+int32_t trench_choose(const uint8_t *job, size_t job_len, const uint8_t *first, size_t first_len, const uint8_t *second,
+                      size_t second_len);
+
+/* The place of the refusal that trench_choose tells for the same arguments; 0 where it tells none. With a job's refusal it is the
+ * place in the job; with a book's, which are 12, 8, 13, 14, 15 and 16, it is the book, 1 or 2. A job is refused with 8 too, but not
+ * at these places, where no run's record stands. */
+size_t trench_choose_place(const uint8_t *job, size_t job_len, const uint8_t *first, size_t first_len, const uint8_t *second,
+                           size_t second_len);
 
 #ifdef __cplusplus
 }

@@ -1,12 +1,13 @@
-/* The map screen in little: reads a job book, has it planned, and draws the plan as SVG; or draws a stored plan book; or makes a
- * job book of points that were clicked, and draws its plan.
+/* The map screen in little: reads a job book, has it planned, and draws the plan as SVG; or draws a stored plan book, or the one
+ * of two plan books of a job that is to be staked from; or makes a job book of points that were clicked, and draws its plan.
  *
  *   map JOB > plan.svg                                    a file, or - for standard input
  *   map --plan BOOK > plan.svg                            the same
+ *   map --choose JOB FIRST SECOND > plan.svg              the same; at most one of them is -
  *   map --clicks NUMBER BOOK [X,Y X,Y].. > plan.svg       the job of this number goes to the file BOOK; without points on the
  *                                                         command line they are read from standard input
  *
- * Exit status 0: drawn. 1: the job, its runs or the plan book was refused, and the refusal is told on standard error. 2:
+ * Exit status 0: drawn. 1: the job, its runs or a plan book was refused, and the refusal is told on standard error. 2:
  * something could not be read or written.
  */
 #include <ctype.h>
@@ -86,6 +87,8 @@ static const char *words(int32_t number)
         [TRENCH_NOT_WHOLE] = "the bytes are not whole records of a plan in order",
         [TRENCH_NO_TURN] = "a corner that stands twice, is not straight from the one before, or is no turn",
         [TRENCH_MISCOUNTED] = "a count that differs from what it counts, or a route with no corner",
+        [TRENCH_OTHER_JOB] = "another job's number, number of runs or run numbers",
+        [TRENCH_UNTRUE] = "a plan of the older kinds, or one that is not true for the job",
     };
     bool known = number >= 0 && (size_t)number < sizeof meaning / sizeof *meaning && meaning[number];
     return known ? meaning[number] : "a refusal that this program does not know";
@@ -246,6 +249,45 @@ static size_t plan_clicks(const char *number, const char *name, char **points, u
         refuse_runs(name, -length, trench_job_place(job_number, runs.list, runs.length, job, sizeof job));
     write_file(name, job, (size_t)length);
     return plan_job(name, job, (size_t)length, book, room);
+}
+
+/* ---- one of two plan books ---- */
+
+/* A plan book, and the name under which it came. */
+struct book {
+    const char *name;
+    uint8_t bytes[TRENCH_PLAN_ROOM];
+    size_t length;
+};
+
+static void read_book(const char *name, struct book *book)
+{
+    book->name = name;
+    book->length = read_file(name, book->bytes, sizeof book->bytes);
+}
+
+/* Tells the refusal of a job and two plan books: of a book, where it is one that a book has and its place is 1 or 2, else of the
+ * job. No run's record stands at these places of a job, so that 8 there is a book's. */
+static void refuse_choice(const char *name, const struct book *books, int32_t number, size_t place)
+{
+    bool of_book = (number == TRENCH_COORDINATE || number >= TRENCH_NOT_WHOLE) && (place == 1 || place == 2);
+    if (!of_book)
+        refuse(name, number, place);
+    fprintf(stderr, "map: %s: refused %" PRId32 " at %zu: the %s book: %s\n", books[place - 1].name, number, place,
+            place == 1 ? "first" : "second", words(number));
+    exit(REFUSED);
+}
+
+/* The one of two plan books to stake from, for the job in a file. */
+static const struct book *choose(const char *name, const struct book *books)
+{
+    const struct book *one = &books[0], *two = &books[1];
+    uint8_t job[JOB_ROOM];
+    size_t length = read_file(name, job, sizeof job);
+    int32_t chosen = trench_choose(job, length, one->bytes, one->length, two->bytes, two->length);
+    if (chosen < 0)
+        refuse_choice(name, books, -chosen, trench_choose_place(job, length, one->bytes, one->length, two->bytes, two->length));
+    return chosen == 1 ? one : two;
 }
 
 /* ---- the plan ---- */
@@ -876,21 +918,32 @@ static void draw(const struct plan *plan)
 
 int main(int argc, char **argv)
 {
-    static uint8_t book[TRENCH_PLAN_ROOM];
+    static struct book books[2];
     static struct plan plan;
     bool stored = argc == 3 && strcmp(argv[1], "--plan") == 0, clicked = argc > 3 && strcmp(argv[1], "--clicks") == 0;
-    if (argc != 2 && !stored && !clicked) {
+    bool chosen = argc == 5 && strcmp(argv[1], "--choose") == 0;
+    if (argc != 2 && !stored && !clicked && !chosen) {
         fprintf(stderr, "usage: map JOB > plan.svg            a job book, or - for standard input\n"
                         "       map --plan BOOK > plan.svg    a stored plan book, or - for standard input\n"
+                        "       map --choose JOB FIRST SECOND > plan.svg\n"
+                        "                                     the one of two plan books of a job that is to be staked from\n"
                         "       map --clicks NUMBER BOOK [X,Y X,Y].. > plan.svg\n"
                         "                                     a job of these runs, or of points on standard input; it goes to BOOK\n");
         return FAILED;
     }
-    const char *name = argv[clicked ? 3 : argc - 1];
-    size_t length = clicked ? plan_clicks(argv[2], name, argv + 4, book, sizeof book)
-                  : stored  ? read_file(name, book, sizeof book)
-                            : plan_file(name, book, sizeof book);
-    read_plan(name, book, length, &plan);
+    const struct book *book = &books[0];
+    if (chosen) {
+        read_book(argv[3], &books[0]);
+        read_book(argv[4], &books[1]);
+        book = choose(argv[2], books);
+    } else if (stored) {
+        read_book(argv[2], &books[0]);
+    } else {
+        books[0].name = argv[clicked ? 3 : 1];
+        books[0].length = clicked ? plan_clicks(argv[2], argv[3], argv + 4, books[0].bytes, sizeof books[0].bytes)
+                                  : plan_file(argv[1], books[0].bytes, sizeof books[0].bytes);
+    }
+    read_plan(book->name, book->bytes, book->length, &plan);
     draw(&plan);
     if (fflush(stdout) != 0 || ferror(stdout))
         fail("standard output", "cannot be written");

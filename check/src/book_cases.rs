@@ -215,9 +215,14 @@ pub fn whole_book(random: &mut Random) -> PlanBook {
 /// Every kind of a plan book's records, of both sets.
 pub(crate) const ALL_KINDS: [u8; 6] = [PLAN_HEAD, OLDER_HEAD, ROUTE, OLDER_ROUTE, CORNER, END];
 
-/// A book with a byte or two changed, cut out or put in, or a part of it put elsewhere: whatever is due for it.
+/// A whole book, touched: whatever is due for it.
 fn touched(random: &mut Random) -> Vec<u8> {
-    let mut bytes = whole_book(random).bytes();
+    let bytes = whole_book(random).bytes();
+    touch(random, bytes)
+}
+
+/// The bytes of a book with one or two changed, cut out or put in, or a part of it put elsewhere.
+pub(crate) fn touch(random: &mut Random, mut bytes: Vec<u8>) -> Vec<u8> {
     for _ in 0..1 + random.below(2) {
         let at = random.below(bytes.len());
         match random.below(6) {
@@ -307,7 +312,7 @@ fn head_record(random: &mut Random, kinds: Kinds, bytes: &mut Vec<u8>) {
 }
 
 /// Bytes with no design, of any length up to 700; many have kinds at places where records may stand.
-fn noise(random: &mut Random) -> Vec<u8> {
+pub(crate) fn noise(random: &mut Random) -> Vec<u8> {
     let length = random.below(700);
     let mut bytes = random.bytes(length);
     let kinds = *random.pick(&BOTH_KINDS);

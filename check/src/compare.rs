@@ -1,7 +1,9 @@
 //! The comparison of a planner, called as C calls `trench_plan` and `trench_plan_place`, with the independent reading: many
-//! jobs of all kinds, each with every size of plan buffer that matters. Well-formed jobs are written again besides.
+//! jobs of all kinds, each with every size of plan buffer that matters. Well-formed jobs are written again besides, and plans are
+//! handed back.
 
 use crate::book::{hex, job_bytes};
+use crate::choose::{Chooser, faults_of_handing_back};
 use crate::damage;
 use crate::facts;
 use crate::generate::{self, CROSSINGS, KINDS};
@@ -39,6 +41,9 @@ pub trait Caller {
 
     /// The writer of job books that stands beside the planner, if there is one.
     fn writer(&mut self) -> Option<&mut dyn Writer>;
+
+    /// The chooser between two plan books that stands beside the planner, if there is one.
+    fn chooser(&mut self) -> Option<&mut dyn Chooser>;
 }
 
 /// A job book to try, with what was made to be wrong with it where something was.
@@ -53,7 +58,7 @@ pub struct Case {
 
 /// Jobs that every comparison starts with: a blank one, the surveyed examples of document 01, jobs at the limits, and leases of
 /// several groups, some of which are no stars.
-const SPECIAL: [&str; 36] = [
+pub(crate) const SPECIAL: [&str; 36] = [
     "# blank",
     "5,5 5,5",
     "0,0 3,4",
@@ -92,11 +97,15 @@ const SPECIAL: [&str; 36] = [
     "-1000000,-1000000 0,0; 0,0 1000000,1000000; -1000000,1000000 0,0; 0,0 1000000,-1000000",
 ];
 
+/// The job 7 of such a line.
+pub(crate) fn special(words: &str) -> Job {
+    line::parse(words, 7).expect("a job line").unwrap_or(Job { number: 7, runs: Vec::new() })
+}
+
 /// The n-th case of a seed. The first are special ones, the same for every seed.
 pub fn case(seed: u64, n: u64) -> Case {
     if let Some(words) = SPECIAL.get(n as usize) {
-        let job = line::parse(words, 7).expect("a job line").unwrap_or(Job { number: 7, runs: Vec::new() });
-        return Case { bytes: job_bytes(&job), made_wrong: None, what: format!("special: {words}") };
+        return Case { bytes: job_bytes(&special(words)), made_wrong: None, what: format!("special: {words}") };
     }
     let n = n - SPECIAL.len() as u64;
     if let Some(byte) = n.checked_sub(1).filter(|&byte| byte < 256) {
@@ -171,6 +180,11 @@ pub fn try_case(caller: &mut dyn Caller, case: &Case, random: &mut Random, repor
         report.calls += 1;
         report.written_again += 1;
         faults.extend(faults_of_rewriting(writer, &job, &case.bytes, random));
+    }
+    if let Some(chooser) = caller.chooser().filter(|_| !plan.is_empty()) {
+        report.calls += 2;
+        report.handed_back += 1;
+        faults.extend(faults_of_handing_back(chooser, &case.bytes, &plan));
     }
     report.books += 1;
     report.longest = report.longest.max(plan.len());

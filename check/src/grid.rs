@@ -38,7 +38,7 @@ fn distinct(mut values: Vec<i32>) -> Vec<i32> {
 }
 
 /// The index one nearer to another, or that one itself.
-fn nearer(from: usize, to: usize) -> usize {
+pub(crate) fn nearer(from: usize, to: usize) -> usize {
     match from.cmp(&to) {
         Ordering::Less => from + 1,
         Ordering::Equal => to,

@@ -1,9 +1,10 @@
 //! The judge of plan books: reads a job and a plan, and says in words everything that is wrong with the plan. A plan book that
-//! reading refuses is judged no further: of one that is read, the records, their counts and their turns are right.
+//! reading refuses is judged no further: of one that is read, the records, their counts and their turns are right. Our plans have to
+//! be least; of anyone's it is asked whether they are true (02, C-17), however much they dig.
 
 use crate::edges::EdgeSet;
 use crate::graph::Survey;
-use crate::job::{Point, Run};
+use crate::job::{Job, Point, Run};
 use crate::pits;
 use crate::plan_book::{Kinds, PlanBook, RouteRecord};
 use crate::planner;
@@ -18,7 +19,8 @@ pub struct Judge {
     groups: usize,
     /// For each run the run number of its group's centre.
     centres: Vec<u16>,
-    least: i64,
+    /// What the routes may dig; none where they may dig any length.
+    least: Option<i64>,
 }
 
 /// Everything that is wrong with a plan of a job, both given as bytes; nothing where the plan is right.
@@ -30,11 +32,22 @@ pub fn judge(job: &[u8], plan: &[u8]) -> Vec<String> {
 }
 
 impl Judge {
-    /// The judge of plans for this job, which is well formed, and of which every group is a star.
+    /// The judge of our plans for this job, which is well formed, and of which every group is a star.
     pub fn new(survey: Survey) -> Judge {
         let plan = planner::plan_surveyed(&survey).expect("every group is a star");
-        let centres = plan.centres.iter().map(|&centre| survey.job.runs[centre].number).collect();
-        Judge { survey, groups: plan.groups, centres, least: plan.trench }
+        Judge { least: Some(plan.trench), ..Judge::of_anyones(survey) }
+    }
+
+    /// The judge of anyone's plans for such a job, which need not be least.
+    pub fn of_anyones(survey: Survey) -> Judge {
+        let centres = survey.graph.centres().expect("every group is a star");
+        let centres = centres.iter().map(|&centre| survey.job.runs[centre].number).collect();
+        Judge { groups: survey.graph.groups().len(), centres, least: None, survey }
+    }
+
+    /// The job.
+    pub fn job(&self) -> &Job {
+        &self.survey.job
     }
 
     /// Everything that is wrong with these bytes as a plan of the job.
@@ -44,13 +57,15 @@ impl Judge {
             faults.push(format!("the plan has {} bytes, more than {LONGEST_PLAN}", bytes.len()));
         }
         match PlanBook::read(bytes) {
-            Ok(book) => self.faults_of_book(&book, &mut faults),
+            Ok(book) => faults.extend(self.faults_of_book(&book)),
             Err(refused) => faults.push(refused.to_string()),
         }
         faults
     }
 
-    fn faults_of_book(&self, book: &PlanBook, faults: &mut Vec<String>) {
+    /// Everything that is wrong with a plan book that was read.
+    pub fn faults_of_book(&self, book: &PlanBook) -> Vec<String> {
+        let mut faults = Vec::new();
         if book.kinds == Kinds::Older {
             faults.push("the plan has the older kinds".to_string());
         }
@@ -72,12 +87,13 @@ impl Judge {
                 let (said, due) = (route.centre, self.centres[i]);
                 faults.push(format!("run {}: its group's centre is {said} and should be {due}", run.number));
             }
-            let dug = self.faults_of_route(run, self.survey.graph.meets(i), route, faults);
+            let dug = self.faults_of_route(run, self.survey.graph.meets(i), route, &mut faults);
             union = union.zip(dug).map(|(union, dug)| union.union(&dug));
         }
         if let Some(union) = union.filter(|_| book.routes.len() == self.survey.job.runs.len()) {
-            self.faults_of_union(book, union.length(&self.survey.grid), faults);
+            self.faults_of_union(book, union.length(&self.survey.grid), &mut faults);
         }
+        faults
     }
 
     fn faults_of_union(&self, book: &PlanBook, length: i64, faults: &mut Vec<String>) {
@@ -88,8 +104,8 @@ impl Judge {
         if saved != self.survey.job.distance() - length {
             faults.push(format!("saved is {saved}, but the routes save {}", self.survey.job.distance() - length));
         }
-        if length != self.least {
-            faults.push(format!("the routes dig {length}, but {} would do", self.least));
+        if let Some(least) = self.least.filter(|&least| least != length) {
+            faults.push(format!("the routes dig {length}, but {least} would do"));
         }
     }
 

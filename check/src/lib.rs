@@ -1,6 +1,7 @@
 //! A second reading of documents 000 (geometry), 01 (bytes, limits, order) and 02 (later requests), which shares no code with
-//! the proved planner: an independent planner of leases, a reader and a judge of plans, a writer of jobs, generators of jobs, of
-//! plan books and of lists of runs, and the comparison of a planner, a reader and a writer with all of these.
+//! the proved planner: an independent planner of leases, a reader and a judge of plans, the choice between two of them, a writer of
+//! jobs, generators of jobs, of plan books, of lists of runs and of pairs of plan books, and the comparison of a planner, a reader, a
+//! writer and a chooser with all of these.
 
 #![forbid(unsafe_code)]
 
@@ -8,11 +9,14 @@ pub mod book;
 pub mod book_cases;
 pub mod book_damage;
 pub mod cases;
+pub mod choice;
+pub mod choose;
 pub mod compare;
 pub mod damage;
 pub mod edges;
 pub mod enumerate;
 pub mod facts;
+pub mod foreign;
 pub mod generate;
 pub mod graph;
 pub mod grid;
@@ -26,6 +30,7 @@ pub mod line;
 pub mod list_cases;
 pub mod list_line;
 pub mod listing;
+pub mod pair_cases;
 pub mod pits;
 pub mod plan_book;
 pub mod planner;
@@ -34,4 +39,5 @@ pub mod read_back;
 pub mod refusal;
 pub mod report;
 pub mod text;
+pub mod untrue;
 pub mod write_job;

@@ -69,11 +69,16 @@ pub fn group_by_group(survey: &Survey, way: impl Fn(&[Run], &Grid, usize) -> Opt
     Some(all)
 }
 
+/// The length of the union of these routes.
+pub fn dug(grid: &Grid, routes: &[Path]) -> i64 {
+    let union = routes.iter().fold(EdgeSet::none(grid), |union, path| union.union(&EdgeSet::along(grid, path)));
+    union.length(grid)
+}
+
 /// The plan of these routes, its figures measured on them; none where some group is no star.
 pub fn drawn(survey: &Survey, routes: &[Path]) -> Option<Plan> {
     let Survey { job, grid, graph } = survey;
-    let union = routes.iter().fold(EdgeSet::none(grid), |union, path| union.union(&EdgeSet::along(grid, path)));
-    let trench = union.length(grid);
+    let trench = dug(grid, routes);
     let corners = routes.iter().map(|path| pits::corners(path).map(|v| grid.point(v)).collect()).collect();
     let pits = pits::of_paths(grid, routes).count();
     let (groups, centres, meets) = (graph.groups().len(), graph.centres()?, graph.figures());

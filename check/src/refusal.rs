@@ -12,7 +12,7 @@ pub const PLAN_ROOM: usize = 40_960;
 /// A refusal's number and place.
 #[derive(Clone, Copy, Debug, PartialEq, Eq)]
 pub struct Refusal {
-    /// 1 to 9, or 11 to 14.
+    /// 1 to 9, or 11 to 16.
     pub number: i32,
     /// The offset of the record at fault, or what documents 01 and 02 say instead.
     pub place: usize,
@@ -40,6 +40,8 @@ pub fn words(number: i32) -> &'static str {
         12 => "the bytes are not whole records of a plan in order",
         13 => "a corner that stands twice, is not straight from the one before, or is no turn",
         14 => "a count that differs from what it counts, or a route with no corner",
+        15 => "a plan of another job, or of other runs",
+        16 => "a plan of the older kinds, or not true",
         _ => "no refusal",
     }
 }

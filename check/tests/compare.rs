@@ -2,6 +2,7 @@
 
 use std::collections::BTreeSet;
 
+use trench_check::choose::Chooser;
 use trench_check::compare::{Called, Caller, SIZES, case, try_cases, try_listing};
 use trench_check::enumerate::Path;
 use trench_check::facts;
@@ -32,6 +33,10 @@ impl<F: FnMut(&[u8], &mut [u8]) -> i32> Caller for Plain<F> {
     fn writer(&mut self) -> Option<&mut dyn Writer> {
         None
     }
+
+    fn chooser(&mut self) -> Option<&mut dyn Chooser> {
+        None
+    }
 }
 
 /// A planner with what stands beside it: these places, and a writer that writes this.
@@ -52,6 +57,10 @@ impl<P: FnMut(&[u8], usize) -> usize, W: FnMut(u32, &[i32]) -> Vec<u8>> Caller f
 
     fn writer(&mut self) -> Option<&mut dyn Writer> {
         Some(self)
+    }
+
+    fn chooser(&mut self) -> Option<&mut dyn Chooser> {
+        None
     }
 }
 
@@ -505,4 +514,53 @@ fn listings_are_held_to_what_is_due() {
     assert_noticed("the head's number of groups is ", &|text| text.replace(" groups 2 ", " groups 1 "));
     assert_noticed("its group's centre is ", &|text| text.replace(" centre 2 ", " centre 1 "));
     assert_noticed("no listing of a plan", &|text| text.replace(" groups ", " centre "));
+}
+
+/// The independent planner, with a chooser beside it that gives this answer and this place for all books.
+struct WithChooser(i64, i64);
+
+impl Caller for WithChooser {
+    fn call(&mut self, job: &[u8], out: &mut [u8]) -> Called {
+        Called { answer: right(job, out), strayed: None }
+    }
+
+    fn place(&mut self, _: &[u8], _: usize) -> Option<Answered> {
+        None
+    }
+
+    fn writer(&mut self) -> Option<&mut dyn Writer> {
+        None
+    }
+
+    fn chooser(&mut self) -> Option<&mut dyn Chooser> {
+        Some(self)
+    }
+}
+
+impl Chooser for WithChooser {
+    fn choose(&mut self, _: &[u8], first: &[u8], second: &[u8]) -> Answered {
+        assert_eq!(first, second);
+        Answered { answer: self.0, strayed: None }
+    }
+
+    fn place(&mut self, _: &[u8], _: &[u8], _: &[u8]) -> Answered {
+        Answered { answer: self.1, strayed: None }
+    }
+}
+
+#[test]
+fn a_plan_that_is_not_handed_back_is_noticed() {
+    let report = try_cases(&mut WithChooser(1, 0), 7, 0, 36, 1);
+    assert_eq!(report.faults, Vec::<String>::new());
+    assert_eq!(report.handed_back, report.accepted.values().sum::<usize>());
+    for (chooser, told) in [
+        (WithChooser(-16, 0), "the plan as both books: the answer is -16 and should be 1"),
+        (WithChooser(2, 0), "the plan as both books: the answer is 2 and should be 1"),
+        (WithChooser(1, 1), "the plan as both books: the place is 1 and should be 0"),
+    ] {
+        let mut chooser = chooser;
+        let report = try_cases(&mut chooser, 7, 0, 36, 1);
+        assert_eq!(report.faults.len(), report.handed_back);
+        assert!(report.faults.iter().all(|fault| fault.ends_with(told)), "{:?}", report.faults);
+    }
 }

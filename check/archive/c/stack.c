@@ -1,9 +1,11 @@
 /* How much stack the archive's functions need: runs them on a stack of its own that was painted before, and looks how far it was
  * used.
  *
- *   stack JOB..            prints the greatest need in bytes, of planning the jobs, of writing jobs and of reading plan books
+ *   stack JOB..            prints the greatest need in bytes, of planning the jobs, of writing jobs, of reading plan books and of
+ *                          choosing between two
  *   stack --read JOB..     the same of reading alone: the jobs' plans, the longest book, and the jobs' bytes, which are no plan
  *   stack --write JOB..    the same of writing jobs from lists, and of the places of refusals
+ *   stack --choose JOB..   the same of choosing between two plans of a job, which are the planner's, and of the longest book
  *
  * Exit status 1 where the need is above TRENCH_STACK, 2 where something went wrong.
  */
@@ -51,6 +53,17 @@ static void *written(void *given)
     struct call *call = given;
     call->answer = trench_job(7, call->list, call->numbers, call->book, sizeof call->book);
     call->place = trench_job_place(7, call->list, call->numbers, call->book, sizeof call->book);
+    return given;
+}
+
+/* Chooses between a book and itself, and asks for the place of the refusal. */
+static void *chosen(void *given)
+{
+    struct call *call = given;
+    const uint8_t *book = call->book;
+    size_t length = call->book_length;
+    call->answer = trench_choose(call->job, call->length, book, length, book, length);
+    call->place = trench_choose_place(call->job, call->length, book, length, book, length);
     return given;
 }
 
@@ -137,6 +150,16 @@ static size_t reading(struct call *call, size_t length, bool accepted, size_t co
     return bytes;
 }
 
+/* The need of choosing between the book of a call and itself, which has to be handed back, or refused as the first. */
+static size_t choosing(struct call *call, size_t length, bool accepted)
+{
+    call->book_length = length;
+    size_t bytes = need(chosen, call);
+    if (accepted ? call->answer != 1 || call->place != 0 : call->answer > 0 || call->place != 1)
+        exit(2);
+    return bytes;
+}
+
 /* The need of writing the job of so many runs, which has to be accepted, or refused with its place. */
 static size_t writing(struct call *call, size_t runs)
 {
@@ -152,12 +175,13 @@ static size_t writing(struct call *call, size_t runs)
 int main(int argc, char **argv)
 {
     static struct call call;
-    size_t to_plan = 0, to_read = 0, to_write = 0;
+    size_t to_plan = 0, to_read = 0, to_write = 0, to_choose = 0;
     bool read_only = argc > 1 && strcmp(argv[1], "--read") == 0, write_only = argc > 1 && strcmp(argv[1], "--write") == 0;
+    bool choose_only = argc > 1 && strcmp(argv[1], "--choose") == 0;
     static const size_t runs[] = { 0, 1, TRENCH_MOST_RUNS, TRENCH_MOST_RUNS + 1 };
     for (size_t i = 0; i < sizeof runs / sizeof *runs; i++)
         to_write = most(to_write, writing(&call, runs[i]));
-    for (int i = read_only || write_only ? 2 : 1; i < argc; i++) {
+    for (int i = read_only || write_only || choose_only ? 2 : 1; i < argc; i++) {
         FILE *file = fopen(argv[i], "rb");
         if (!file)
             return 2;
@@ -165,13 +189,18 @@ int main(int argc, char **argv)
         fclose(file);
         to_write = most(to_write, need(placed, &call));
         to_plan = most(to_plan, need(planned, &call));
-        if (call.answer > 0)
-            to_read = most(to_read, reading(&call, (size_t)call.answer, true, 0));
+        if (call.answer > 0) {
+            size_t length = (size_t)call.answer;
+            to_read = most(to_read, reading(&call, length, true, 0));
+            to_choose = most(to_choose, choosing(&call, length, true));
+            to_choose = most(to_choose, choosing(&call, longest_book(call.book), false));
+        }
         memcpy(call.book, call.job, call.length);
         to_read = most(to_read, reading(&call, call.length, false, 0));
     }
     to_read = most(to_read, reading(&call, longest_book(call.book), true, TRENCH_MOST_RUNS * TRENCH_MOST_CORNERS));
-    size_t bytes = read_only ? to_read : write_only ? to_write : most(most(to_plan, to_read), to_write);
+    size_t all = most(most(to_plan, to_read), most(to_write, to_choose));
+    size_t bytes = read_only ? to_read : write_only ? to_write : choose_only ? to_choose : all;
     printf("%zu\n", bytes);
     return bytes <= TRENCH_STACK ? 0 : 1;
 }

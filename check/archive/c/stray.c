@@ -1,5 +1,5 @@
-/* Functions with the interfaces of trench_plan, trench_job, trench_job_place and trench_corner that do what those must not: the
- * tests see that each is noticed. The planners answer -4. */
+/* Functions with the interfaces of trench_plan, trench_job, trench_job_place, trench_corner, trench_choose and trench_choose_place that
+ * do what those must not: the tests see that each is noticed. The planners answer -4. */
 #include <stddef.h>
 #include <stdint.h>
 
@@ -92,5 +92,33 @@ size_t stray_job_place(uint32_t number, const int32_t *runs, size_t runs_len, co
         *(volatile uint8_t *)buffer = *buffer;
     else
         stray_job(number, runs, runs_len, buffer, out_len);
+    return 0;
+}
+
+/* Does the deed of number job_len to what is before or behind its parts, or to a part, all of which it may only read. Answers -4. */
+int32_t stray_choose(const uint8_t *job, size_t job_len, const uint8_t *first, size_t first_len, const uint8_t *second,
+                     size_t second_len);
+
+int32_t stray_choose(const uint8_t *job, size_t job_len, const uint8_t *first, size_t first_len, const uint8_t *second,
+                     size_t second_len)
+{
+    const uint8_t *before[] = { job - 1, first - 1, second - 1 }, *part[] = { job, first, second };
+    const uint8_t *behind[] = { job + job_len, first + first_len, second + second_len };
+    const uint8_t *at = (job_len / 3 % 3 == 0 ? before : job_len / 3 % 3 == 1 ? part : behind)[job_len % 3];
+    if (job_len < 9)
+        (void)*(const volatile uint8_t *)at;
+    else
+        *(volatile uint8_t *)(uintptr_t)at ^= 1;
+    return -4;
+}
+
+/* The same; answers 0. */
+size_t stray_choose_place(const uint8_t *job, size_t job_len, const uint8_t *first, size_t first_len, const uint8_t *second,
+                          size_t second_len);
+
+size_t stray_choose_place(const uint8_t *job, size_t job_len, const uint8_t *first, size_t first_len, const uint8_t *second,
+                          size_t second_len)
+{
+    stray_choose(job, job_len, first, first_len, second, second_len);
     return 0;
 }

@@ -5,6 +5,7 @@
 
 use std::ffi::c_void;
 
+use trench_check::choose::Chooser;
 use trench_check::compare::{Called, Caller};
 use trench_check::read_back::{Answered, Asker, Question};
 use trench_check::write_job::Writer;
@@ -61,6 +62,38 @@ unsafe extern "C" {
         j: usize,
         corner: *mut i32,
         corner_len: usize,
+    ) -> usize;
+    fn trench_choose(
+        job: *const u8,
+        job_len: usize,
+        first: *const u8,
+        first_len: usize,
+        second: *const u8,
+        second_len: usize,
+    ) -> i32;
+    fn trench_choose_place(
+        job: *const u8,
+        job_len: usize,
+        first: *const u8,
+        first_len: usize,
+        second: *const u8,
+        second_len: usize,
+    ) -> usize;
+    fn stray_choose(
+        job: *const u8,
+        job_len: usize,
+        first: *const u8,
+        first_len: usize,
+        second: *const u8,
+        second_len: usize,
+    ) -> i32;
+    fn stray_choose_place(
+        job: *const u8,
+        job_len: usize,
+        first: *const u8,
+        first_len: usize,
+        second: *const u8,
+        second_len: usize,
     ) -> usize;
     fn mmap(at: *mut c_void, length: usize, protection: i32, flags: i32, file: i32, offset: i64) -> *mut c_void;
     fn mprotect(at: *mut c_void, length: usize, protection: i32) -> i32;
@@ -137,6 +170,18 @@ pub fn write_job(number: u32, list: &[i32], out: &mut [u8]) -> i32 {
 pub fn write_job_place(number: u32, list: &[i32], out: &[u8]) -> usize {
     // SAFETY: the function reads the numbers of the list and `out.len()` bytes of out, and both slices are alive.
     unsafe { trench_job_place(number, list.as_ptr(), list.len(), out.as_ptr(), out.len()) }
+}
+
+/// The archive's choice between two plan books of a job: 1 or 2, or minus the refusal number.
+pub fn choose(job: &[u8], first: &[u8], second: &[u8]) -> i32 {
+    // SAFETY: the function reads the bytes of the three slices, which are alive.
+    unsafe { trench_choose(job.as_ptr(), job.len(), first.as_ptr(), first.len(), second.as_ptr(), second.len()) }
+}
+
+/// The archive's place of the refusal of the same.
+pub fn choose_place(job: &[u8], first: &[u8], second: &[u8]) -> usize {
+    // SAFETY: as above.
+    unsafe { trench_choose_place(job.as_ptr(), job.len(), first.as_ptr(), first.len(), second.as_ptr(), second.len()) }
 }
 
 /// Bytes of a record that the program `table_rounds` reads.
@@ -282,7 +327,7 @@ impl Against {
 }
 
 /// Calls a function with job and plan buffer each against an inaccessible page, by turns the one behind and the one before.
-/// The rest of their pages holds canaries. The archive's tells places too, and has a writer beside it.
+/// The rest of their pages holds canaries. The archive's tells places too, and has a writer and a chooser beside it.
 pub struct Guarded {
     function: Function,
     job: Room,
@@ -290,15 +335,18 @@ pub struct Guarded {
     next: Against,
     next_place: Against,
     writer: Option<GuardedWriter>,
+    chooser: Option<GuardedChooser>,
 }
 
 impl Guarded {
     /// A caller of this function; job books of at most 4,096 bytes, plan buffers of at most 45,056. The first call, and the first
     /// question for a place, is made against these pages.
     pub fn new(function: Function, first: Against) -> Guarded {
-        let writer = (function == Function::Archive).then(|| GuardedWriter::new(JobWriter::Archive, first));
+        let is_archive = function == Function::Archive;
+        let writer = is_archive.then(|| GuardedWriter::new(JobWriter::Archive, first));
+        let chooser = is_archive.then(|| GuardedChooser::new(BookChooser::Archive, first));
         let (job, out) = (Room::new(1), Room::new(MOST_PAGES));
-        Guarded { function, job, out, next: first, next_place: first, writer }
+        Guarded { function, job, out, next: first, next_place: first, writer, chooser }
     }
 
     /// What became of a lent job, and of the bytes around it.
@@ -344,6 +392,10 @@ impl Caller for Guarded {
 
     fn writer(&mut self) -> Option<&mut dyn Writer> {
         self.writer.as_mut().map(|writer| writer as &mut dyn Writer)
+    }
+
+    fn chooser(&mut self) -> Option<&mut dyn Chooser> {
+        self.chooser.as_mut().map(|chooser| chooser as &mut dyn Chooser)
     }
 }
 
@@ -511,5 +563,82 @@ impl Asker for GuardedReader {
         }
         let around = self.book.changed_around(at, length);
         (around > 0).then(|| format!("bytes changed around the book: {around}"))
+    }
+}
+
+/// The functions that choose between two plan books.
+#[derive(Clone, Copy, Debug, PartialEq, Eq)]
+pub enum BookChooser {
+    /// Those of the archive.
+    Archive,
+    /// `stray_choose` and `stray_choose_place`, which do what those must not.
+    Stray,
+}
+
+/// Calls the chooser with job and books each against an inaccessible page, by turns the one behind and the one before. The rest of
+/// their pages holds canaries.
+pub struct GuardedChooser {
+    functions: BookChooser,
+    /// Those of the job, the first book and the second.
+    rooms: [Room; 3],
+    next: Against,
+    next_place: Against,
+}
+
+/// What is lent, by index.
+const LENT: [&str; 3] = ["the job", "the first book", "the second book"];
+
+impl GuardedChooser {
+    /// A caller of these functions; job books of at most 4,096 bytes, plan books of at most 45,056. The first call of each is made
+    /// against these pages.
+    pub fn new(functions: BookChooser, first: Against) -> GuardedChooser {
+        let rooms = [Room::new(1), Room::new(MOST_PAGES), Room::new(MOST_PAGES)];
+        GuardedChooser { functions, rooms, next: first, next_place: first }
+    }
+
+    /// Lends all three and gives their offsets.
+    fn lend(&mut self, lent: [&[u8]; 3], against: Against) -> [usize; 3] {
+        [0, 1, 2].map(|i| self.rooms[i].lend(lent[i], against))
+    }
+
+    /// Where the part of this index lies.
+    fn part(&self, i: usize, at: [usize; 3]) -> *const u8 {
+        // SAFETY: the offset is inside the room.
+        unsafe { self.rooms[i].base.cast_const().add(at[i]) }
+    }
+
+    /// Says in words what was changed, of what was lent or around it.
+    fn give_back(&mut self, at: [usize; 3], lent: [&[u8]; 3]) -> Option<String> {
+        let mut outside = 0;
+        for (i, room) in self.rooms.iter_mut().enumerate() {
+            if room.bytes()[at[i]..at[i] + lent[i].len()] != *lent[i] {
+                return Some(format!("{} was changed", LENT[i]));
+            }
+            outside += room.changed_around(at[i], lent[i].len());
+        }
+        around(outside)
+    }
+}
+
+impl Chooser for GuardedChooser {
+    fn choose(&mut self, job: &[u8], first: &[u8], second: &[u8]) -> Answered {
+        let at = self.lend([job, first, second], self.next);
+        self.next = self.next.other();
+        let function = if self.functions == BookChooser::Stray { stray_choose } else { trench_choose };
+        let [job_at, first_at, second_at] = [0, 1, 2].map(|i| self.part(i, at));
+        // SAFETY: the three parts lie in rooms that live and do not overlap. A function that strays beyond its parts hits canaries,
+        // or a page that it may not touch; then the process ends.
+        let answer = unsafe { function(job_at, job.len(), first_at, first.len(), second_at, second.len()) }.into();
+        Answered { answer, strayed: self.give_back(at, [job, first, second]) }
+    }
+
+    fn place(&mut self, job: &[u8], first: &[u8], second: &[u8]) -> Answered {
+        let at = self.lend([job, first, second], self.next_place);
+        self.next_place = self.next_place.other();
+        let function = if self.functions == BookChooser::Stray { stray_choose_place } else { trench_choose_place };
+        let [job_at, first_at, second_at] = [0, 1, 2].map(|i| self.part(i, at));
+        // SAFETY: as above.
+        let answer = unsafe { function(job_at, job.len(), first_at, first.len(), second_at, second.len()) } as i64;
+        Answered { answer, strayed: self.give_back(at, [job, first, second]) }
     }
 }

@@ -8,8 +8,8 @@ use std::path::{Path, PathBuf};
 
 use common::{compile, has, root, run, text};
 
-/// Plans a job of one run, a blank one and a refused one, writes jobs from lists, and reads plans, with every name of the
-/// header in use.
+/// Plans a job of one run, a blank one and a refused one, writes jobs from lists, reads plans, and chooses between plans, with every
+/// name of the header in use.
 const PROGRAM: &str = r#"
 #include "trench.h"
 #include "trench.h"
@@ -32,6 +32,44 @@ static size_t (*const figures_of)(const uint8_t *, size_t, uint32_t *, size_t) =
 static size_t (*const places_of)(const uint8_t *, size_t, uint32_t *, size_t) = trench_places;
 static size_t (*const route_of)(const uint8_t *, size_t, const uint32_t *, size_t, size_t, uint32_t *, size_t) = trench_route;
 static size_t (*const corner_of)(const uint8_t *, size_t, const uint32_t *, size_t, size_t, size_t, int32_t *, size_t) = trench_corner;
+
+typedef int32_t chooser(const uint8_t *, size_t, const uint8_t *, size_t, const uint8_t *, size_t);
+typedef size_t chooser_place(const uint8_t *, size_t, const uint8_t *, size_t, const uint8_t *, size_t);
+static chooser *const choose_book = trench_choose;
+static chooser_place *const choose_place = trench_choose_place;
+
+/* Whether this answer and place are given for the job of one run and two plans of these lengths. */
+static int gives(const uint8_t *first, size_t first_len, const uint8_t *second, size_t second_len, int32_t answer, size_t place)
+{
+    return choose_book(job, sizeof job, first, first_len, second, second_len) == answer &&
+           choose_place(job, sizeof job, first, first_len, second, second_len) == place;
+}
+
+/* Chooses between the plan of the run from 0,0 to 3,4 and others; 0, or where it went wrong. */
+static int choose_books(void)
+{
+    uint8_t plan_of[64], other[64];
+    int32_t length = plan(job, sizeof job, out, sizeof out);
+    if (length != 22 + 9 + 3 * 9)
+        return 80;
+    size_t book = (size_t)length;
+    memcpy(plan_of, out, book), memcpy(other, out, book);
+    if (!gives(plan_of, book, plan_of, book, 1, 0) || !gives(plan_of, book, other, book, 1, 0))
+        return 81;
+    if (!gives(plan_of, book - 1, other, book, -TRENCH_NOT_WHOLE, 1) || !gives(plan_of, book, other, book - 1, -TRENCH_NOT_WHOLE, 2))
+        return 82;
+    other[7] = 6; /* the trench, which is 7 */
+    if (!gives(plan_of, book, other, book, -TRENCH_UNTRUE, 2) || !gives(other, book, plan_of, book, -TRENCH_UNTRUE, 1))
+        return 83;
+    other[1] = 8; /* the job number */
+    if (!gives(plan_of, book, other, book, -TRENCH_OTHER_JOB, 2) || !gives(other, book, plan_of, book, -TRENCH_OTHER_JOB, 1))
+        return 84;
+    if (choose_book(job, sizeof job - 1, other, book, other, book) != -TRENCH_CUT)
+        return 85;
+    if (choose_place(job, sizeof job - 1, other, book, other, book) != 24)
+        return 86;
+    return choose_book(blank, sizeof blank, out, (size_t)plan(blank, sizeof blank, out, sizeof out), out, 22) == 1 ? 0 : 87;
+}
 
 /* Reads the plan of a run from 0,0 to -3,4 back, whole and damaged; 0, or where it went wrong. */
 static int read_back(void)
@@ -202,6 +240,8 @@ int main(void)
         return 6;
     if (TRENCH_NO_STAR != 11 || TRENCH_NOT_WHOLE != 12 || TRENCH_NO_TURN != 13 || TRENCH_MISCOUNTED != 14)
         return 7;
+    if (TRENCH_OTHER_JOB != 15 || TRENCH_UNTRUE != 16)
+        return 9;
     if (TRENCH_MOST_RUNS != 32 || TRENCH_MOST_CORNERS != 127 || TRENCH_STACK < 65536)
         return 8;
     int wrong = write_jobs();
@@ -209,6 +249,8 @@ int main(void)
         wrong = ask_places();
     if (wrong == 0)
         wrong = read_older();
+    if (wrong == 0)
+        wrong = choose_books();
     return wrong ? wrong : read_back();
 }
 "#;
@@ -249,5 +291,5 @@ fn every_function_of_the_archive_is_declared() {
     let listed = run(Path::new("nm"), &["--extern-only", "--defined-only", env!("TRENCH_ARCHIVE_COPY")], &[]);
     let listed = text(&listed.stdout);
     assert_eq!(names(listed.lines().filter(|line| line.contains(" T "))), declared);
-    assert_eq!(declared.len(), 10);
+    assert_eq!(declared.len(), 12);
 }

@@ -1,4 +1,5 @@
-//! Makes vectors (small jobs, their figures, their bytes, damaged books, lists of runs), writes jobs, and reads and judges plans.
+//! Makes vectors (small jobs, their figures, their bytes, damaged books, lists of runs, pairs of plans), writes jobs, reads and judges
+//! plans, and chooses between two.
 //! `check/README.md` says what each command reads and prints.
 
 use std::io::Read;
@@ -7,6 +8,7 @@ use std::process::ExitCode;
 use trench_check::book;
 use trench_check::book_damage;
 use trench_check::cases;
+use trench_check::choice::{choose, told};
 use trench_check::damage::{self, Damaged};
 use trench_check::enumerate;
 use trench_check::generate::{self, CROSSINGS, KINDS};
@@ -19,6 +21,7 @@ use trench_check::leases::{self, LAYOUTS};
 use trench_check::line;
 use trench_check::list_line;
 use trench_check::listing;
+use trench_check::pair_cases::pair_case;
 use trench_check::plan_book::PlanBook;
 use trench_check::planner::{self, group_by_group};
 use trench_check::random::Random;
@@ -38,10 +41,12 @@ usage: trench-check jobs SEED COUNT      small stars and leases of every kind, o
        trench-check damaged SEED COUNT   damaged job books in hexadecimal, with the refusal that is due
        trench-check broken SEED COUNT    damaged plan books likewise
        trench-check lists SEED COUNT     lists of runs in hexadecimal, with a buffer's length and a job number
+       trench-check pairs SEED COUNT     jobs with two plan books each, in hexadecimal, with the choice that is due
        trench-check written [FILE]       the job book of each list of a file of such lines, or its refusal
        trench-check list JOB             the listing of a job book's plan, by the independent planner
        trench-check read PLAN            the listing of a plan book, by the independent reader
-       trench-check judge JOB PLAN       what is wrong with a plan book of a job book";
+       trench-check judge JOB PLAN       what is wrong with a plan book of a job book
+       trench-check choose JOB PLAN PLAN which of two plan books of a job book to stake from";
 
 fn main() -> ExitCode {
     let words: Vec<String> = std::env::args().skip(1).collect();
@@ -66,11 +71,13 @@ fn main() -> ExitCode {
             numbers(seed, count).map(|(seed, count)| show_damaged(seed, count, book_damage::WAYS, book_damage::damaged))
         }
         ["lists", seed, count] => numbers(seed, count).map(|(seed, count)| lists(seed, count)),
+        ["pairs", seed, count] => numbers(seed, count).map(|(seed, count)| pairs(seed, count)),
         ["written"] => each_list(None),
         ["written", file] => each_list(Some(file)),
         ["list", job] => list(job),
         ["read", plan] => read(plan).map(|plan| print!("{}", read_back::listed(&plan))),
         ["judge", job, plan] => judged(job, plan),
+        ["choose", job, first, second] => chosen(job, first, second),
         _ => Err(USAGE.to_string()),
     };
     match done {
@@ -118,6 +125,14 @@ fn lists(seed: u64, count: u64) {
     list_line::short_cases(seed).take(count as usize).for_each(|case| println!("{}", list_line::show(&case)));
 }
 
+fn pairs(seed: u64, count: u64) {
+    for case in (0..count).map(|n| pair_case(seed, n)) {
+        let [job, first, second] = [&case.job[..], case.first(), case.second()].map(book::hex);
+        let choice = told(&choose(&case.job, case.first(), case.second()));
+        println!("{job} | {first} | {second} | {choice} | {}", case.label);
+    }
+}
+
 fn read(name: &str) -> Result<Vec<u8>, String> {
     std::fs::read(name).map_err(|error| format!("{name}: {error}"))
 }
@@ -137,6 +152,11 @@ fn judged(job: &str, plan: &str) -> Result<(), String> {
         return Ok(());
     }
     Err(faults.join("\n"))
+}
+
+fn chosen(job: &str, first: &str, second: &str) -> Result<(), String> {
+    println!("{}", told(&choose(&read(job)?, &read(first)?, &read(second)?)));
+    Ok(())
 }
 
 /// Does something with each line of a file, or of standard input; what goes wrong is told with the line.

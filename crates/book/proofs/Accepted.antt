@@ -154,7 +154,7 @@ told-corner [] i t j e = absurd (none-there i t _ e)
 told-corner (u ∷ ts) zero t j e = let same : u ≡ t = cc in ap (λ (v : Told). spotIn (v .entry .corners) j) same
 told-corner (u ∷ ts) (suc i) t j e = told-corner ts i t j e
 
-told-right : (ts : List Told) (i : ℕ) (t : Told) → drop i ts ≡ t ∷ drop (suc i) ts → All RightCount ts → RightCount t
+pub told-right : (ts : List Told) (i : ℕ) (t : Told) → drop i ts ≡ t ∷ drop (suc i) ts → All RightCount ts → RightCount t
 told-right [] i t e a = absurd (none-there i t _ e)
 told-right (u ∷ ts) zero t e a = let same : u ≡ t = cc in rw (← same) (a .0)
 told-right (u ∷ ts) (suc i) t e a = told-right ts i t e (a .1)

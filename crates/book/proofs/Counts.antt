@@ -224,7 +224,7 @@ module _ {s : List ℕ} {h : Head} {n total : ℕ} {held : List ℕ} (w : WholeB
 
     -- the record of route i, whole
     there : (routeSize (h .grouped) ≤ length (drop (getD held i 0) s)) × (stood .route .said ≡ word2 (drop 1 (drop (getD held i 0) s)) 4)
-    there = rw (stood .at .is) at (record-long (drop (getD held i 0) s))
+    there = let l = rw (stood .at .is) at (record-long (drop (getD held i 0) s)) in (l .0, l .3)
 
     -- the bytes in which it says its corners are there
     pub said-room : getD held i 0 + 6 < length s

@@ -1,13 +1,13 @@
 -- What a step takes from the front of the bytes: the record that stands there, whole, with what was tested of it.
 use mathlib.Core.Path.{_≡_, refl, ap}
-use mathlib.Core.Bool.{true, false, not, _||_}
+use mathlib.Core.Bool.{true, false, cond, not, _||_}
 use mathlib.Core.List.{List, [], _∷_}
 use Prim.Native.Nat.{ℕ, _≤_, _<_}
 use native.Mathlib.Omega.{arith}
 use lib.Dec.{ltb, leb, eqb}
 use lib.ListN.{length, drop}
 use borrow.Author.Tests.{ltb-false, leb-false, eqb-false, not-false}
-use Rattle.job.specs.Fields.{word2, biasedOf}
+use Rattle.job.specs.Fields.{word2, word4, biasedOf}
 use Rattle.job.proofs.Decoded.{by-test}
 use Rattle.network.proofs.Tests.{neither}
 use Rattle.plan.specs.declared.Head.{Head}
@@ -22,12 +22,14 @@ use Rattle.book.specs.declared.Step.the-variants as step
 use Rattle.book.specs.Parse.{inRange, noTurn, cornerStep, mixed, stepBy, stepOf, isGrouped}
 use Rattle.book.proofs.Tests.{not-mixed}
 
--- ---- a record is as long as its kind says; a head's kind tells the set of kinds, and a route tells its corners in the fifth and sixth byte of its body
+-- ---- a record is as long as its kind says; a head's kind tells the set of kinds, and the fields of a route and of a corner are numbers of its body
 
 abbrev pub Long : List ℕ → Record → Type 0
 Long b (rec.Head h) = (19 ≤ length b) × (isGrouped b ≡ h .grouped)
-Long b (rec.Route g number meets corners centre) = (routeSize g ≤ length b) × (corners ≡ word2 (drop 1 b) 4)
-Long b (rec.Corner x y) = 9 ≤ length b
+Long b (rec.Route g number meets corners centre) =
+    (routeSize g ≤ length b) × (number ≡ word2 (drop 1 b) 0) × (meets ≡ word2 (drop 1 b) 2) × (corners ≡ word2 (drop 1 b) 4)
+    × (centre ≡ cond g (word2 (drop 1 b) 6) 0)
+Long b (rec.Corner x y) = (9 ≤ length b) × (x ≡ word4 (drop 1 b) 0) × (y ≡ word4 (drop 1 b) 4)
 Long b (rec.End total) = 3 ≤ length b
 Long b rec.Other = Unit {0}
 
@@ -40,9 +42,9 @@ decoded-long kind b =
     let P = Long (kind ∷ b) in
     by-test P (eqb kind 0x51) (λ t. whole-long kind 18 b _ (λ l. (omega arith, t)))
     (λ t. by-test P (eqb kind 0x50) (λ _. whole-long kind 18 b _ (λ l. (omega arith, t)))
-    (λ _. by-test P (eqb kind 0x4F) (λ _. whole-long kind 8 b _ (λ l. (omega arith, refl)))
-    (λ _. by-test P (eqb kind 0x4E) (λ _. whole-long kind 6 b _ (λ l. (omega arith, refl)))
-    (λ _. by-test P (eqb kind 0x43) (λ _. whole-long kind 8 b _ (λ l. omega arith))
+    (λ _. by-test P (eqb kind 0x4F) (λ _. whole-long kind 8 b _ (λ l. (omega arith, refl, refl, refl, refl)))
+    (λ _. by-test P (eqb kind 0x4E) (λ _. whole-long kind 6 b _ (λ l. (omega arith, refl, refl, refl, refl)))
+    (λ _. by-test P (eqb kind 0x43) (λ _. whole-long kind 8 b _ (λ l. (omega arith, refl, refl)))
     (λ _. by-test P (eqb kind 0x5A) (λ _. whole-long kind 2 b _ (λ l. omega arith)) (λ _. tt))))))
 
 pub record-long : (b : List ℕ) → Long b (recordOf b)
@@ -109,7 +111,7 @@ took-by at w b (rec.Corner x y) l =
       upward = y;
       is = refl;
       biased = refl;
-      long = l;
+      long = l .0;
       begun = omega (arith, n);
       room = leb-false 127 (w .corners) few;
       in-range = not-false _ r;

@@ -53,7 +53,7 @@ module _ (s : List ℕ) (p : ℕ) where
   word2-there i q e = λ j. byte-there i q e j + 256 * byte-there (i + 1) (q + 1) (omega arith) j
 
   -- a number of four
-  word4-there : (i q : ℕ) → q ≡ p + (1 + i) → word4 (drop 1 (drop p s)) i ≡ word4 s q
+  pub word4-there : (i q : ℕ) → q ≡ p + (1 + i) → word4 (drop 1 (drop p s)) i ≡ word4 s q
   word4-there i q e = λ j.
       byte-there i q e j
       + 256 * byte-there (i + 1) (q + 1) (omega arith) j

@@ -21,7 +21,7 @@ use Rattle.grid.specs.Runs.{runsHeld}
 use Rattle.network.specs.Entries.{length-table, getD-table}
 use Rattle.planner.specs.Call.{runOf, runsOf, numbersOf}
 use Rattle.planner.specs.Held.{runIn, runsIn, Held}
-use Rattle.planner.specs.Coordinates.{RunsInRange}
+use Rattle.figures.specs.Coordinates.{RunsInRange}
 
 -- ---- the runs
 

@@ -7,8 +7,8 @@ pub mod Stored
 pub mod Examples
 pub mod Held
 pub mod Verdicts
-pub mod Distances
 pub mod Judged
+pub mod Leased
 pub mod Writing
 pub mod Stages
 pub mod MapScreen

@@ -10,7 +10,7 @@ use Rattle.network.specs.Hanan.{hanan}
 use Rattle.network.specs.Graph.{meets}
 use Rattle.network.specs.Steps.{hor, ver}
 use Rattle.groups.specs.Groups.{allStars, centreOf}
-use Rattle.grid.proofs.Hanan.{axis-columns, axis-rows}
+use Rattle.planner.proofs.Leased.{axes-held}
 use Rattle.intersection.specs.Sets.{has}
 use Rattle.intersection.specs.Centres.{meetsIn}
 use Rattle.intersection.proofs.Held.{set-joined}
@@ -65,12 +65,7 @@ module _ (j : Job) (sets centres : List ℕ) (S : Leased j sets centres) (x y : 
       }
 
   pub axes-lined : Lined (runsOf (runsIn j)) (x .axis) (y .axis)
-  axes-lined =
-      subst (λ rs. Lined rs (x .axis) (y .axis)) (sym (plane-held j))
-      (record {
-        columns-are = axis-columns (j .x1) (j .y1) (j .x2) (j .y2) (j .count) (x .axis) (X .axis-is);
-        rows-are = axis-rows (j .x1) (j .y1) (j .x2) (j .y2) (j .count) (y .axis) (Y .axis-is);
-      })
+  axes-lined = axes-held j (x .axis) (y .axis) (X .axis-is) (Y .axis-is)
 
 -- what stands behind the first n is the same
 same-behind : (old new : List ℕ) (n : ℕ) → Beyond old new n → drop n new ≡ drop n old

@@ -13,10 +13,7 @@ use Rattle.network.specs.Route.{unionLength}
 use Rattle.network.specs.Corners.{corners}
 use Rattle.network.specs.Graph.{meets}
 use Rattle.network.proofs.Corners.{corners-union}
-use Rattle.network.specs.Entries.{length-table, getD-table}
-use Rattle.groups.specs.Groups.{groupCount, centreOf}
-use Rattle.grid.specs.Tables.{table, padded}
-use Rattle.grid.proofs.Tables.{getD-padded}
+use Rattle.groups.specs.Groups.{groupCount}
 use Rattle.grid.specs.declared.Axis.{Axis}
 use Rattle.grid.proofs.Places.{axis-line}
 use Rattle.job.specs.declared.Job.{Job}
@@ -32,10 +29,9 @@ use Rattle.laying.specs.declared.Layout.{Layout}
 use Rattle.laying.specs.Lease.{drawnBy, LaidOut}
 use Rattle.planner.specs.Call.{runsOf, numbersOf, planOf}
 use Rattle.planner.specs.Held.{runsIn, Held}
-use Rattle.planner.specs.Stages.{Leased, Lined, ownOf}
+use Rattle.planner.specs.Stages.{Lined, ownOf}
 use Rattle.planner.proofs.Held.{length-held, length-plane, held-few, numbers-held}
 use Rattle.planner.proofs.Fits.{few-lines, distances-bounded}
-use Rattle.planner.proofs.Judged.{centre-judged}
 
 all-imp : {A : Type 0} (P Q : A → Type 0) → ((a : A) → P a → Q a) → (l : List A) → All P l → All Q l
 all-imp P Q f [] a = tt
@@ -114,16 +110,6 @@ module _ (j : Job) (h : Held j) (laid : Layout) (L : LaidOut (runsOf (runsIn j))
       let k : groups % 65536 ≡ groups = omega (arith, f, held-few j h) in
       let q : groups % 65536 ≡ groupCount (meets g runs) (length runs) = k ∙ s ∙ ap (groupCount (meets g runs)) (sym (length-plane j)) in
       λ i. record { grouped = true; job = j .number; runs = n i; trench = u i; saved = x i; pits = o i; last = q i }
-
-  -- the numbers of the centres
-  pub centre-number : (sets centres : List ℕ) → Leased j sets centres → (cs : List ℕ)
-      → cs ≡ padded 32 (table (λ i. getD (j .numbers) (getD centres i 0) 0) (j .count)) → (i : ℕ) → i < j .count → getD cs i 0 ≡ centreFigure (numbersOf (runsIn j)) runs i
-  centre-number sets centres S cs e i l =
-      let f : ℕ → ℕ = λ i. getD (j .numbers) (getD centres i 0) 0 in
-      ap (λ l. getD l i 0) e ∙ getD-padded 32 (table f (j .count)) i (omega (arith, held-few j h, length-table f (j .count))) ∙ getD-table f (j .count) i 0 l
-      ∙ numbers-held j h (getD centres i 0)
-      ∙ ap (λ c. getD (numbersOf (runsIn j)) c 0)
-      (centre-judged runs (j .count) (held-few j h) (length-plane j) (S .stars) centres (S .centres-are) i l ∙ ap (λ n. centreOf (meets g runs) n i) (sym (length-plane j)))
 
   -- ---- the bytes
 

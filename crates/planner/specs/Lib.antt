@@ -13,4 +13,3 @@ pub mod Examples
 -- what the contracts of the stages between speak of, and no demand
 pub mod Held
 pub mod Stages
-pub mod Coordinates

@@ -1,8 +1,7 @@
 // The planner: a job's bytes into the bytes of a least plan.
 mod clear;
 pub mod codes;
-mod figures;
-mod judge;
+pub mod meetings;
 mod survey;
 mod writer;
 
@@ -55,7 +54,7 @@ fn plan_job(j: Job, work: &mut [u32], out: &mut [u8]) -> Answer
     requires { ⌜ Held j × Lent (j .count) (now work) (now out) ⌝ }
     ensures { λ r. ⌜ Outcome (judged (accepted (j .number) (runsIn j))) (now (out .entry)) (said r) (now (out .exit)) × Left (said r) (now (work .entry)) (now (work .exit)) ⌝ }
 {
-    let neighbours = judge::neighbours_of(j);
+    let neighbours = meetings::neighbours_of(j);
     let found = intersection::finder::centres_of(&neighbours, j.count);
     if found.stars {
         let centres = found.centres;

@@ -42,7 +42,7 @@ fn distances_of(j: Job) -> u32
     let y1 = j.y1;
     let x2 = j.x2;
     let y2 = j.y2;
-    crate::figures::total_distance(&x1, &y1, &x2, &y2, j.count)
+    figures::total_distance(&x1, &y1, &x2, &y2, j.count)
 }
 
 // Writes the plan, and says its length.
@@ -62,9 +62,9 @@ pub fn write(
     let routes = laid.routes;
     let pits = route::pits(routes, j.count);
     let head = head_of(j, groups, distances_of(j), laid.saved as u32, pits);
-    let meets = crate::figures::meets_figures(&neighbours, j.count);
+    let meets = figures::meets_figures(&neighbours, j.count);
     let numbers = j.numbers;
-    let middles = crate::figures::centre_numbers(&numbers, &centres, j.count);
+    let middles = figures::centre_numbers(&numbers, &centres, j.count);
     let xs = columns.lines;
     let ys = rows.lines;
     plan::write_plan(

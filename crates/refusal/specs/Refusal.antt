@@ -1,9 +1,9 @@
--- The number and the place of each refusal, of jobs (document 01, "What a call says and leaves"), of lists of runs (document 02, C-15) and of plan books (C-12). 1, 2
--- and 11 have the place 0; 10 is no refusal's number (C-11).
+-- The number and the place of each refusal, of jobs (document 01, "What a call says and leaves"), of lists of runs (document 02, C-15) and of plan books
+-- (C-12, C-17). 1, 2 and 11 have the place 0; 10 is no refusal's number (C-11).
 -- Assumes nothing.
 use Prim.Native.Nat.{ℕ}
 use Rattle.refusal.specs.declared.Refusal.{Refusal}
-use Rattle.refusal.specs.declared.Refusal.the-variants.{ShortWork, ShortBuffer, Cut, UnknownKind, Misplaced, WrongCount, WrongNumber, OutOfRange, TooManyRuns, NoStar, NotWhole, NoTurn, Miscounted}
+use Rattle.refusal.specs.declared.Refusal.the-variants.{ShortWork, ShortBuffer, Cut, UnknownKind, Misplaced, WrongCount, WrongNumber, OutOfRange, TooManyRuns, NoStar, NotWhole, NoTurn, Miscounted, OtherJob, Untrue}
 
 abbrev pub refusalNumber : Refusal → ℕ
 refusalNumber ShortWork = 1
@@ -19,6 +19,8 @@ refusalNumber NoStar = 11
 refusalNumber (NotWhole at) = 12
 refusalNumber (NoTurn at) = 13
 refusalNumber (Miscounted at) = 14
+refusalNumber (OtherJob at) = 15
+refusalNumber (Untrue at) = 16
 
 abbrev pub refusalPlace : Refusal → ℕ
 refusalPlace ShortWork = 0
@@ -34,3 +36,5 @@ refusalPlace NoStar = 0
 refusalPlace (NotWhole at) = at
 refusalPlace (NoTurn at) = at
 refusalPlace (Miscounted at) = at
+refusalPlace (OtherJob at) = at
+refusalPlace (Untrue at) = at

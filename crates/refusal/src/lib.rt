@@ -2,7 +2,7 @@
 ghost use mathlib.Core.Path.{_≡_};
 ghost use Rattle.refusal.specs.Refusal.{refusalNumber, refusalPlace};
 
-// The documents' numbers 1 to 9 and 11 to 14 in this order. A case that has a place holds it.
+// The documents' numbers 1 to 9 and 11 to 16 in this order. A case that has a place holds it.
 pub enum Refusal {
     ShortWork,
     ShortBuffer,
@@ -17,6 +17,8 @@ pub enum Refusal {
     NotWhole(usize),
     NoTurn(usize),
     Miscounted(usize),
+    OtherJob(usize),
+    Untrue(usize),
 }
 
 // The documents' number of a refusal.
@@ -37,6 +39,8 @@ pub fn number(refusal: Refusal) -> u32
         Refusal::NotWhole(_) => 12,
         Refusal::NoTurn(_) => 13,
         Refusal::Miscounted(_) => 14,
+        Refusal::OtherJob(_) => 15,
+        Refusal::Untrue(_) => 16,
     }
 }
 
@@ -58,5 +62,7 @@ pub fn place(refusal: Refusal) -> usize
         Refusal::NotWhole(at) => at,
         Refusal::NoTurn(at) => at,
         Refusal::Miscounted(at) => at,
+        Refusal::OtherJob(at) => at,
+        Refusal::Untrue(at) => at,
     }
 }

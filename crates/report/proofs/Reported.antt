@@ -86,7 +86,7 @@ place-few job x e =
     omega (arith, applies-within (take 640 job) x (first-applies (take 640 job) x .0 (parse-prefix 640 job (omega arith) ∙ e) .applies), length-take 640 job)
 
 -- so is that of the verdict, and 11 has the place 0
-judged-place : (job : List ℕ) (x : Refusal) → judged (parse job) ≡ refused x → refusalPlace x ≤ 640
+pub judged-place : (job : List ℕ) (x : Refusal) → judged (parse job) ≡ refused x → refusalPlace x ≤ 640
 judged-place job x e = go (judged-refuses (parse job) x e)
   where
     go : (parse job ≡ refused x) ⊎ ((number : ℕ) × (runs : List Read) × (parse job ≡ accepted number runs) × (AreStars (runsOf runs) → ⊥) × (x ≡ NoStar))

@@ -1,5 +1,5 @@
--- How long texts are: a right book's has at most 85 characters for the head, 50 for each run and 18 for each of at most 127 corners, a refusal's at most 35.
--- So a buffer of 74,837 bytes has room for each.
+-- How long texts are: a right book's has at most 85 characters for the head, 50 for each run and 18 for each of at most 127 corners, a refusal's at most 35,
+-- a choice's at most 72. So a buffer of 74,837 bytes has room for each.
 use mathlib.Core.Bool.{Bool, true, false}
 use mathlib.Core.List.{List, [], _∷_, _++_, flatMap}
 use Prim.Native.Nat.{ℕ, _+_, _*_, _≤_, _<_, _^_}
@@ -15,7 +15,7 @@ use Rattle.plan.specs.Plan.{Entry}
 use Rattle.plan.specs.Fits.{PointIn, HeadFits, CentreFits}
 use Rattle.book.specs.Right.{RightEntry, RightBook}
 use Rattle.text.specs.Numerals.{ascii}
-use Rattle.text.specs.Text.{lastText, headText, centreText, pointText, entryText, planText, refusalText}
+use Rattle.text.specs.Text.{lastText, headText, centreText, pointText, entryText, planText, refusalText, chosenText}
 use Rattle.text.proofs.Numerals.{decimal-length}
 use Rattle.text.proofs.Signed.{decimetres-length}
 
@@ -99,3 +99,12 @@ pub refusal-length : (r : Refusal) → refusalPlace r < 2 ^ 64 → length (refus
 unfolding refusalText
 refusal-length r h =
     simp length-append (omega (arith, decimal-length 1 (refusalNumber r) (omega (arith, refusal-numbers r)), decimal-length 19 (refusalPlace r) (omega arith)))
+
+-- ---- choices
+
+-- trench figures are numbers of 32 bits
+pub chosen-length : (second : Bool) (trench other : ℕ) → trench < 2 ^ 32 → other < 2 ^ 32 → length (chosenText second trench other) ≤ 72
+chosen-length true trench other h k =
+    simp length-append (omega (arith, decimal-length 9 trench (omega arith), decimal-length 9 other (omega arith)))
+chosen-length false trench other h k =
+    simp length-append (omega (arith, decimal-length 9 trench (omega arith), decimal-length 9 other (omega arith)))

@@ -1,4 +1,4 @@
--- The text of a plan and of a refusal, line by line (01, Listing): "Line 1 is the head; each later line has run number, meets, number of corners,
+-- The text of a plan, of a refusal and of a choice, line by line (01, Listing): "Line 1 is the head; each later line has run number, meets, number of corners,
 -- then the corners. A refusal prints `refused 11 at 0`, with its own number and place .. every line ends in one line feed." Of a plan of the new kinds it "says
 -- `groups` for `centre` and adds `centre` before `corners`" (02, C-16).
 use mathlib.Core.Bool.{Bool, true, false}
@@ -61,3 +61,9 @@ refusedText number place = (ascii "refused " ++ decimal number) ++ (ascii " at "
 -- a refusal, by its number and place
 unfoldable pub refusalText : Refusal → List ℕ
 refusalText r = refusedText (refusalNumber r) (refusalPlace r)
+
+-- `stake from the first book: trench 100, the second has 104`, or `stake from the second book: trench 96, the first has 100`: the chosen book's trench, and the
+-- other's (02, C-17)
+abbrev pub chosenText : (second : Bool) (trench other : ℕ) → List ℕ
+chosenText true trench other = (ascii "stake from the second book: trench " ++ decimal trench) ++ (ascii ", the first has " ++ decimal other) ++ ascii "\n"
+chosenText false trench other = (ascii "stake from the first book: trench " ++ decimal trench) ++ (ascii ", the second has " ++ decimal other) ++ ascii "\n"

@@ -1,4 +1,4 @@
-// The text of a plan and of a refusal (document 01, "Listing"). Each piece is written into the rest of the text buffer behind the piece before
+// The text of a plan, of a refusal (document 01, "Listing") and of a choice (document 02, C-17). Each piece is written into the rest of the text buffer behind the piece before
 // it. A writer puts as much of its text as there is room for at the front of what it is lent, and answers how many bytes that is.
 use plan::Head;
 use records::Record;
@@ -9,7 +9,7 @@ ghost use lib.ListN.{length, replicate};
 ghost use mir.Syntax.{w32};
 ghost use mir.Val.{toZ};
 ghost use Rattle.text.specs.Numerals.{ascii, decimal, signed};
-ghost use Rattle.text.specs.Text.{figuresText, lastText, headText, centreText, routeText, cornerText, refusedText, refusalText};
+ghost use Rattle.text.specs.Text.{figuresText, lastText, headText, centreText, routeText, cornerText, refusalText, chosenText};
 ghost use Rattle.text.specs.Listing.{recordText, Sized, listingOf};
 ghost use Rattle.text.specs.Listed.{Listed, ListedRecord};
 
@@ -144,11 +144,12 @@ fn write_corner(text: &mut [u8], x: u32, y: u32) -> usize
     at + write_coordinate(&mut text[at..], y)
 }
 
-fn write_refused(text: &mut [u8], number: u64, place: u64) -> usize
-    ensures { λ n. ⌜ Listed (refusedText number place) (now (text .entry)) (now (text .exit)) n ⌝ }
+// A line of two numbers, each behind its name.
+fn write_line(text: &mut [u8], name: &[u8], n: u64, other: &[u8], m: u64) -> usize
+    ensures { λ r. ⌜ Listed ((now (name .entry) ++ decimal n) ++ (now (other .entry) ++ decimal m) ++ ascii "\n") (now (text .entry)) (now (text .exit)) r ⌝ }
 {
-    let mut at = write_field(text, b"refused ", number);
-    at += write_field(&mut text[at..], b" at ", place);
+    let mut at = write_field(text, name, n);
+    at += write_field(&mut text[at..], other, m);
     at + write_byte(&mut text[at..], b'\n')
 }
 
@@ -158,7 +159,32 @@ pub fn list_refusal(refusal: Refusal, text: &mut [u8]) -> usize
 {
     let number = refusal::number(refusal) as u64;
     let place = refusal::place(refusal) as u64;
-    write_refused(text, number, place)
+    write_line(text, b"refused ", number, b" at ", place)
+}
+
+// The text of a choice between two plan books of these trench figures, the second of them chosen or the first: as much of it as there is room for, and how many
+// bytes that is.
+pub fn list_chosen(second: bool, trench: u32, other: u32, text: &mut [u8]) -> usize
+    ensures { λ n. ⌜ Listed (chosenText second trench other) (now (text .entry)) (now (text .exit)) n ⌝ }
+{
+    let t = trench as u64;
+    let o = other as u64;
+    if second {
+        return write_line(
+            text,
+            b"stake from the second book: trench ",
+            t,
+            b", the first has ",
+            o,
+        );
+    }
+    write_line(
+        text,
+        b"stake from the first book: trench ",
+        t,
+        b", the second has ",
+        o,
+    )
 }
 
 // How many bytes a record takes; what ends a listing takes all that are left.
@@ -225,7 +251,7 @@ pub fn list_plan(plan: &[u8], text: &mut [u8]) -> usize
     written
 }
 
-// Zeros, enough for every text of a plan with at most 32 runs and of a refusal.
+// Zeros, enough for every text of a plan with at most 32 runs, of a refusal and of a choice.
 pub fn buffer() -> [u8; 74837]
     ensures { λ r. ⌜ r ≡ replicate 74837 0 ⌝ }
     ensures { λ r. ⌜ 74837 ≡ length r ⌝ }

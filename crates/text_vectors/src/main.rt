@@ -1,4 +1,4 @@
-// Prints the listing of each plan on standard input, then the text of every refusal. A line of the input is a label, a space and the plan's bytes
+// Prints the listing of each plan on standard input, then the text of every refusal and of some choices. A line of the input is a label, a space and the plan's bytes
 // in hexadecimal. It prints the label and the length of the text, the text, a bar, and then as much of the text as 40 bytes have room for, and a bar.
 use libc::STDIN_FILENO;
 use libc::STDOUT_FILENO;
@@ -58,7 +58,9 @@ fn refusal(nth: u32, place: usize) -> Refusal {
         10 => Refusal::NoStar,
         11 => Refusal::NotWhole(place),
         12 => Refusal::NoTurn(place),
-        _ => Refusal::Miscounted(place),
+        13 => Refusal::Miscounted(place),
+        14 => Refusal::OtherJob(place),
+        _ => Refusal::Untrue(place),
     }
 }
 
@@ -69,9 +71,15 @@ fn list_refusal(refusal: Refusal) {
 }
 
 fn list_refusals(place: usize) {
-    for nth in 1..14 {
+    for nth in 1..16 {
         list_refusal(refusal(nth, place));
     }
+}
+
+fn list_choice(second: bool, trench: u32, other: u32) {
+    let mut line = text::buffer();
+    let n = text::list_chosen(second, trench, other, &mut line);
+    print(&line[..n]);
 }
 
 fn main() {
@@ -81,4 +89,8 @@ fn main() {
     list_refusals(0);
     list_refusals(615);
     list_refusals(18446744073709551615);
+    list_choice(false, 100, 104);
+    list_choice(true, 96, 100);
+    list_choice(false, 0, 0);
+    list_choice(true, 4294967294, 4294967295);
 }

@@ -2,3 +2,4 @@
 pub mod Words
 pub mod Told
 pub mod Jobs
+pub mod Chosen

@@ -1,9 +1,10 @@
-// The functions for C: planning a job for the map screen, writing a job book from its runs, and reading a plan book. include/trench.h says what each is lent and
-// leaves.
+// The functions for C: planning a job for the map screen, writing a job book from its runs, reading a plan book, and choosing between two of them.
+// include/trench.h says what each is lent and leaves.
 use book::Answer;
 use book::Figures;
 use book::Route;
 use book::Spot;
+use choice::Choice;
 use job_writer::Outcome;
 ghost use mathlib.Core.Path.{_≡_};
 ghost use lib.ListN.{length};
@@ -13,9 +14,11 @@ ghost use Rattle.planner.specs.Verdict.{verdict};
 ghost use Rattle.planner.specs.Outcome.{MapOutcome};
 ghost use Rattle.book.specs.Parse.{parsePlan};
 ghost use Rattle.book.specs.Reading.{figuresOf, placesOf, routeBy, cornerBy};
+ghost use Rattle.choice.specs.Choice.{choiceOf, placeOf as choicePlace};
 ghost use Rattle.trench.specs.Words.{Filled};
 ghost use Rattle.trench.specs.Jobs.{outcomeCode, outcomePlace};
 ghost use Rattle.trench.specs.Told.{codeOf, placeOf, kindOf, figureWords, routeWords, spotWords};
+ghost use Rattle.trench.specs.Chosen.{choiceCode};
 
 // Plans a job: the plan's length, or minus the refusal number.
 #[no_mangle]
@@ -174,4 +177,26 @@ pub extern "C" fn trench_corner(
     corner[0] = x;
     corner[1] = y;
     2
+}
+
+// Which of two plan books of a job is to be staked from: 1 or 2, or minus the refusal number.
+#[no_mangle]
+pub extern "C" fn trench_choose(job: &[u8], first: &[u8], second: &[u8]) -> i32
+    ensures { λ r. ⌜ r ≡ choiceCode (choiceOf (now (job .entry)) (now (first .entry)) (now (second .entry))) ⌝ }
+{
+    let choice = choice::which(job, first, second);
+    match choice {
+        Choice::First => 1,
+        Choice::Second => 2,
+        Choice::Refused(refusal) => planner::codes::code_of(refusal),
+    }
+}
+
+// The place of the refusal of a job and two plan books, 0 where it has none.
+#[no_mangle]
+pub extern "C" fn trench_choose_place(job: &[u8], first: &[u8], second: &[u8]) -> usize
+    ensures { λ r. ⌜ r ≡ choicePlace (choiceOf (now (job .entry)) (now (first .entry)) (now (second .entry))) ⌝ }
+{
+    let refused = choice::refusal_of(job, first, second);
+    refused.place
 }

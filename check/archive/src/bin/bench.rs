@@ -1,21 +1,25 @@
-//! The benchmark: the archive's planner, two C planners and the independent planner on the same jobs, and the archive's reader
-//! and the plain C reader on the same plan books, in one run. With the program `table_rounds`, filling and tracing alone are timed
-//! as well. With `--limit` it is a test: exit status 1 where the proved code takes more than so many times as long as C, planning
-//! for all sizes of jobs together, or a lease more than so many times as long as a star of as many runs.
+//! The benchmark: the archive's planner, two C planners and the independent planner on the same jobs, the archive's reader and the
+//! plain C reader on the same plan books, and the archive's choice between two plan books beside planning their job, in one run. With the
+//! program `table_rounds`, filling and tracing alone are timed as well. With `--limit` it is a test: exit status 1 where the proved code
+//! takes more than so many times as long as C, planning for all sizes of jobs together, or a lease more than so many times as long as a
+//! star of as many runs, or judging a plan book longer than planning its job twice.
 
 use std::hint::black_box;
 use std::path::Path;
 use std::process::ExitCode;
 use std::time::Instant;
 
-use trench_archive::call::{Function, Whose, frame_of, plan, processor_time, rounds_in_c};
+use trench_archive::call::{Function, Whose, choose, frame_of, plan, processor_time, rounds_in_c};
 use trench_archive::ended;
 use trench_archive::program::table_figure;
 use trench_check::book::job_bytes;
+use trench_check::enumerate;
+use trench_check::foreign::{self, Style};
 use trench_check::generate::spread_star;
 use trench_check::graph::Survey;
 use trench_check::job::{Job, MOST_RUNS, Point};
 use trench_check::leases::spread_lease;
+use trench_check::pits;
 use trench_check::plan_book::{Kinds, MOST_CORNERS, PlanBook, RouteRecord};
 use trench_check::planner::plan_surveyed;
 use trench_check::random::Random;
@@ -43,11 +47,13 @@ const FEW: u32 = 1;
 const MANY: u32 = 2_001;
 const REPEATS: usize = 40;
 
-/// The same where a limit is tested: rounds for each size, tables, the longer of the two calls, and how often they are made.
+/// The same where a limit is tested: rounds for each size, tables, the longer of the two calls, how often they are made, and rounds of
+/// choosing between plans.
 const LIMIT_ROUNDS: usize = 250;
 const LIMIT_TABLES: usize = 3;
 const LIMIT_MANY: u32 = 501;
 const LIMIT_REPEATS: usize = 30;
+const LIMIT_CHOOSING: usize = 60;
 /// Bytes of plan books that are read for one measurement of a reader, the same book over and over: about 100 microseconds' work.
 const READ_BYTES: usize = 100_000;
 
@@ -56,6 +62,8 @@ const PATIENCE: u32 = 10;
 /// For jobs of one size the limit is so many times the one for all: C clears 16,384 words for the smallest job too, and how long
 /// that takes is the machine's affair.
 const LEEWAY: f64 = 2.0;
+/// Judging a plan book may take as long as planning its job so many times.
+const PLANNINGS: f64 = 2.0;
 
 const NOTE: &str = "\
 Microseconds a job: the quickest of 400 rounds over the same 16 jobs of each size. The planners take turns in each round, but for
@@ -91,6 +99,12 @@ corner` is a caller's loop in C over the whole book: trench_places, then trench_
 to the first that is not there.
 samples/full.plan is the plan of 32 runs on 64 columns and 64 rows; the longest book is made up, and no book that is read is longer.
 Wanted is a ratio of at most 1: that reading takes no longer than the same reader in plain C.";
+
+const CHOOSING_NOTE: &str = "\
+Choosing between two plan books, in microseconds: the quickest of 400 rounds, in which choosing and planning take turns, over the same 16
+stars of 32 runs (64 x 64 lines). `trench_choose` judges the job and both books; `trench_plan` plans the job. `planned` books are both the
+planner's own, `staircases` have routes with as many corners as their boxes allow. Half of `trench_choose` is taken for one book.
+Wanted is that one book takes less than planning the job twice.";
 
 fn main() -> ExitCode {
     let words: Vec<String> = std::env::args().skip(1).collect();
@@ -132,6 +146,8 @@ fn benchmark(program: &str) -> bool {
     print_leases();
     println!();
     print_readings();
+    println!();
+    print_choosings();
     println!();
     if Path::new(program).is_file() {
         tables(program);
@@ -270,14 +286,14 @@ fn called(function: Function, books: &[Vec<u8>], out: &mut [u8]) -> f64 {
     timed(books, CALLS, |job| assert!(black_box(plan(function, job, out)) > 0, "a plan"))
 }
 
-fn timed(books: &[Vec<u8>], calls: usize, mut call: impl FnMut(&[u8])) -> f64 {
+fn timed<T>(items: &[T], calls: usize, mut call: impl FnMut(&T)) -> f64 {
     let start = Instant::now();
-    for book in books {
+    for item in items {
         for _ in 0..calls {
-            call(black_box(book));
+            call(black_box(item));
         }
     }
-    start.elapsed().as_secs_f64() * 1e6 / (books.len() * calls) as f64
+    start.elapsed().as_secs_f64() * 1e6 / (items.len() * calls) as f64
 }
 
 /// What is held against a limit.
@@ -520,6 +536,97 @@ fn print_readings() {
     }
 }
 
+/// Choosing between two true plan books of stars of 32 runs, against planning the job twice for each book.
+struct Choosing {
+    name: &'static str,
+    /// The jobs, and the two books of each.
+    jobs: Vec<Vec<u8>>,
+    pairs: Vec<[Vec<u8>; 3]>,
+    out: Vec<u8>,
+    /// Choosing, and planning once.
+    quickest: [f64; 2],
+}
+
+impl Choosing {
+    fn of(name: &'static str, books: fn(&[u8], u64) -> [Vec<u8>; 2]) -> Choosing {
+        let jobs = self::books(MOST_RUNS);
+        let pair = |(job, n): (&Vec<u8>, u64)| {
+            let [first, second] = books(job, n);
+            [job.clone(), first, second]
+        };
+        let pairs = jobs.iter().zip(0..).map(pair).collect();
+        Choosing { name, jobs, pairs, out: vec![0; PLAN_ROOM], quickest: [f64::INFINITY; 2] }
+    }
+
+    /// The time of one book by that of planning its job.
+    fn of_one_book(&self) -> f64 {
+        self.quickest[0] / 2.0 / self.quickest[1]
+    }
+}
+
+impl Contest for Choosing {
+    fn round(&mut self) {
+        let choosing = timed(&self.pairs, CALLS, |[job, first, second]| {
+            assert!(black_box(choose(job, first, second)) > 0, "a book");
+        });
+        keep(&mut self.quickest, [choosing, called(Function::Archive, &self.jobs, &mut self.out)]);
+    }
+
+    fn times(&self) -> [f64; 3] {
+        let planning = 2.0 * PLANNINGS * self.quickest[1];
+        [self.quickest[0], planning, planning]
+    }
+
+    fn name(&self) -> String {
+        format!("trench_choose on {} of 32 runs", self.name)
+    }
+
+    fn rival(&self) -> &'static str {
+        "planning the job twice for each book"
+    }
+}
+
+/// The planner's own plan of a job, twice.
+fn planned_books(job: &[u8], _: u64) -> [Vec<u8>; 2] {
+    let mut out = vec![0; PLAN_ROOM];
+    let length = usize::try_from(plan(Function::Archive, job, &mut out)).expect("a plan");
+    [out[..length].to_vec(), out[..length].to_vec()]
+}
+
+/// Two plans of a job whose routes turn at almost every vertex: of some staircases those with the most corners.
+fn staircases(job: &[u8], n: u64) -> [Vec<u8>; 2] {
+    let survey = surveyed(job).expect("stars");
+    let random = &mut Random::nth(MOST_RUNS as u64, n);
+    let corners =
+        |routes: &Vec<enumerate::Path>| routes.iter().map(|route| pits::corners(route).count()).sum::<usize>();
+    [0; 2].map(|_| {
+        let stairs = (0..16).map(|_| foreign::routes(random, &survey, Style::Stairs));
+        foreign::book(&survey, &stairs.max_by_key(corners).expect("routes")).bytes()
+    })
+}
+
+/// Choosing between books of both kinds.
+fn choosings() -> [Choosing; 2] {
+    [Choosing::of("planned books", planned_books), Choosing::of("staircases", staircases)]
+}
+
+/// Times choosing beside planning.
+fn print_choosings() {
+    println!("{CHOOSING_NOTE}\n");
+    println!(
+        "| books | bytes of a book | trench_choose | trench_plan | trench_choose / trench_plan | one book / trench_plan |"
+    );
+    println!("|---|---:|---:|---:|---:|---:|");
+    let mut contests = choosings();
+    (0..ROUNDS).for_each(|_| contests.iter_mut().for_each(Contest::round));
+    for contest in &contests {
+        let ([choosing, planning], one) = (contest.quickest, contest.of_one_book());
+        let bytes = contest.pairs.iter().map(|pair| pair[1].len()).sum::<usize>() / contest.pairs.len();
+        let ratio = choosing / planning;
+        println!("| {} | {bytes} | {choosing:.2} | {planning:.2} | {ratio:.2} | {one:.2} |", contest.name);
+    }
+}
+
 /// Measures so many rounds of each contest, and goes on with those above the limit; whether none is above it then.
 fn settle(contests: &mut [impl Contest], rounds: usize, limit: f64) -> bool {
     let start = Instant::now();
@@ -539,8 +646,8 @@ fn settle(contests: &mut [impl Contest], rounds: usize, limit: f64) -> bool {
     above.is_empty()
 }
 
-/// Whether planning, filling and tracing alone, and reading take at most so many times as long as C, and leases so many times as long as
-/// a star of as many runs.
+/// Whether planning, filling and tracing alone, and reading take at most so many times as long as C, leases so many times as long as
+/// a star of as many runs, and judging a plan book no longer than planning its job twice.
 fn limited(limit: f64, program: &str) -> bool {
     let planning = |(size, books)| Planning { size, books, out: vec![0; PLAN_ROOM], quickest: [f64::INFINITY; 3] };
     let mut all = [Sizes(sizes().into_iter().zip(jobs()).map(planning).collect())];
@@ -573,5 +680,12 @@ fn limited(limit: f64, program: &str) -> bool {
         range(&contests, Contest::ratio)
     });
     println!("speed, for plans of 32 routes: trench_read {alone} C, with every corner {with_corners} C");
+    let mut choosings = choosings();
+    good &= settle(&mut choosings, LIMIT_CHOOSING, 1.0);
+    let told = choosings.iter().map(|contest| {
+        let (both, one) = (2.0 * contest.of_one_book(), contest.of_one_book());
+        format!("{} {both:.2} times planning the job, {one:.2} times for one book", contest.name)
+    });
+    println!("speed, for two plans of 32 routes: trench_choose on {}", told.collect::<Vec<_>>().join("; on "));
     good
 }

@@ -1,18 +1,21 @@
-//! Compares the archive's planner, reader and writer, or a listing program, or the table program, with the independent reading on
-//! many jobs, plan books and lists of runs. Exit status 1 where anything differs.
+//! Compares the archive's planner, reader, writer and chooser, or a listing program, or the table program, with the independent reading
+//! on many jobs, plan books, lists of runs and pairs of plan books. Exit status 1 where anything differs.
 
 use std::process::ExitCode;
 use std::time::{Instant, SystemTime, UNIX_EPOCH};
 
 use trench_archive::call::{
-    Against, Function, Guarded, GuardedReader, GuardedWriter, JobWriter, Reader, frame_of, plan,
+    Against, BookChooser, Function, Guarded, GuardedChooser, GuardedReader, GuardedWriter, JobWriter, Reader, frame_of,
+    plan,
 };
 use trench_archive::ended;
 use trench_archive::program::{printed_by, table_figure};
 use trench_check::book_cases::book_case;
+use trench_check::choose::try_pairs;
 use trench_check::compare::{case, crossed_case, try_case, try_cases, try_listing};
 use trench_check::job::Point;
 use trench_check::list_cases::list_case;
+use trench_check::pair_cases::pair_case;
 use trench_check::pits;
 use trench_check::plan_book::PlanBook;
 use trench_check::planner::plan_surveyed;
@@ -29,6 +32,8 @@ usage: differ COUNT                          so many jobs, and then plan books, 
        differ --plans SEED FROM TO           likewise the plan books
        differ --lists COUNT                  so many lists of runs for the writer of job books, of both seeds
        differ --lists SEED FROM TO           the lists FROM to TO - 1 of a seed; each is named before it is tried
+       differ --pairs COUNT                  so many jobs with two plan books each for the chooser, of both seeds
+       differ --pairs SEED FROM TO           the pairs FROM to TO - 1 of a seed; each is named before it is tried
        differ --crossed COUNT                so many small stars in which cables cross, of both seeds
        differ --table COUNT                  jobs for the plain C planner in place of the archive's
        differ --table SEED FROM TO           likewise
@@ -52,6 +57,8 @@ fn main() -> ExitCode {
         ["--rounds", program, jobs] => numbers(&[jobs]).map(|n| seeds(n[0], |seed, jobs| filled(program, seed, jobs))),
         ["--lists", lists] => numbers(&[lists]).map(|n| seeds(n[0], many_lists)),
         ["--lists", seed, from, to] => numbers(&[seed, from, to]).map(|n| list_by_list(n[0], n[1], n[2])),
+        ["--pairs", pairs] => numbers(&[pairs]).map(|n| seeds(n[0], many_pairs)),
+        ["--pairs", seed, from, to] => numbers(&[seed, from, to]).map(|n| pair_by_pair(n[0], n[1], n[2])),
         ["--crossed", jobs] => numbers(&[jobs]).map(|n| seeds(n[0], crossed)),
         ["--table", ref rest @ ..] => numbers(rest).and_then(|numbers| planned(Function::Table, &numbers)),
         ["--plans", seed, from, to] => numbers(&[seed, from, to]).map(|n| plan_by_plan(n[0], n[1], n[2])),
@@ -96,12 +103,16 @@ fn seeds(books: u64, attempt: impl Fn(u64, u64) -> Report) -> bool {
     good
 }
 
-/// Tries the first jobs of a seed. The archive has to write every job again that it planned.
+/// Tries the first jobs of a seed. The archive has to write every job again that it planned, and to hand its plan back.
 fn many(function: Function, seed: u64, jobs: u64) -> Report {
     let mut report = on_two_threads(|from| try_cases(&mut Guarded::new(function, Against::Back), seed, from, jobs, 2));
     let (again, planned) = (report.written_again, report.accepted.values().sum());
     if function == Function::Archive && again < planned {
         report.faults.push(format!("seed {seed}: only {again} of {planned} jobs were written again"));
+    }
+    let handed_back = report.handed_back;
+    if function == Function::Archive && handed_back < planned {
+        report.faults.push(format!("seed {seed}: only {handed_back} of {planned} plans were lent to the chooser"));
     }
     report
 }
@@ -114,6 +125,12 @@ fn many_plans(seed: u64, plans: u64) -> Report {
 /// Tries the first lists of a seed.
 fn many_lists(seed: u64, lists: u64) -> Report {
     on_two_threads(|from| try_lists(&mut GuardedWriter::new(JobWriter::Archive, Against::Back), seed, from, lists, 2))
+}
+
+/// Tries the first pairs of a seed.
+fn many_pairs(seed: u64, pairs: u64) -> Report {
+    let chooser = || GuardedChooser::new(BookChooser::Archive, Against::Back);
+    on_two_threads(|from| try_pairs(&mut chooser(), seed, from, pairs, 2))
 }
 
 /// Has the even and the odd books tried at once.
@@ -238,6 +255,16 @@ fn list_by_list(seed: u64, from: u64, to: u64) -> bool {
     for n in from..to {
         println!("seed {seed} list {n}: {}", list_case(seed, n).label);
         report.add(try_lists(&mut GuardedWriter::new(JobWriter::Archive, Against::Back), seed, n, n + 1, 1));
+    }
+    println!("{report}");
+    told(&report)
+}
+
+fn pair_by_pair(seed: u64, from: u64, to: u64) -> bool {
+    let mut report = Report::of(Subject::Pairs);
+    for n in from..to {
+        println!("seed {seed} pair {n}: {}", pair_case(seed, n).label);
+        report.add(try_pairs(&mut GuardedChooser::new(BookChooser::Archive, Against::Back), seed, n, n + 1, 1));
     }
     println!("{report}");
     told(&report)

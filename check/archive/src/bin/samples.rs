@@ -1,5 +1,6 @@
 //! Makes the files of `samples/` anew: for each typed job its job book, its plan book and its listing, and the damaged books of
-//! both kinds with their listings. The plans are the archive's; the damaged plan books are listed by the independent reader.
+//! both kinds with their listings, and a contractor's. The plans are the archive's; the damaged plan books and the contractor's are
+//! listed by the independent reader.
 
 use std::fs;
 use std::path::Path;
@@ -8,6 +9,8 @@ use std::process::ExitCode;
 use trench_archive::call::{Function, plan};
 use trench_check::book::job_bytes;
 use trench_check::book_cases::{count, route};
+use trench_check::foreign;
+use trench_check::graph::Survey;
 use trench_check::job::{Job, Point, Run};
 use trench_check::listing;
 use trench_check::plan_book::{HEAD_LENGTH, Kinds, PlanBook};
@@ -52,6 +55,10 @@ fn make(folder: &Path) -> Result<usize, String> {
     }
     for (name, plan) in damaged_plans() {
         write_plan(&folder.join(format!("refused-{name}")), &plan).map_err(failed)?;
+        made += 1;
+    }
+    for (name, plan) in contractors() {
+        write_plan(&folder.join(format!("contractor-{name}")), &plan.bytes()).map_err(failed)?;
         made += 1;
     }
     Ok(made)
@@ -215,5 +222,30 @@ fn damaged_newer() -> Vec<(&'static str, Vec<u8>)> {
         ("14-newer-runs", with(&|book| book.runs = 2)),
         ("14-newer-corners", with(&|book| book.routes[1].count = 3)),
         ("14-newer-total", with(&|book| book.total = 7)),
+    ]
+}
+
+/// Plans of the job of document 01's listing as a contractor may send them: one that is true and digs more, and others that are not
+/// true, or are another job's.
+fn contractors() -> Vec<(&'static str, PlanBook)> {
+    let survey = Survey::of(job_7());
+    let drawn = |corners: &[&[(i32, i32)]]| {
+        let point = |&(x, y): &(i32, i32)| Point::new(x, y);
+        let path = |route: &&[(i32, i32)]| {
+            survey.grid.path(&route.iter().map(point).collect::<Vec<_>>()).expect("corners are vertices")
+        };
+        foreign::book(&survey, &corners.iter().map(path).collect::<Vec<_>>())
+    };
+    let with = |change: &dyn Fn(&mut PlanBook)| {
+        let mut changed = plan_7();
+        change(&mut changed);
+        changed
+    };
+    let (along, upright) = (&[(0, 10), (40, 10)][..], &[(20, 20), (20, 50)][..]);
+    vec![
+        ("1-more", drawn(&[&[(0, 0), (40, 0), (40, 30)], along, upright])),
+        ("2-trench", with(&|book| (book.trench, book.saved) = (90, 50))),
+        ("3-detour", drawn(&[&[(0, 0), (0, 10), (40, 10), (40, 30)], &[(0, 10), (0, 0), (40, 0), (40, 10)], upright])),
+        ("4-another-job", with(&|book| book.job = 8)),
     ]
 }

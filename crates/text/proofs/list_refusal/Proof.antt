@@ -13,8 +13,14 @@ cast-number c = search needs
 place-requires : tie.Need-place-requires
 place-requires c κs = search needs
 
-write-refused-requires : tie.Need-write-refused-requires
-write-refused-requires c κs = search needs
+slice-aggregate-write-line : tie.Need-slice-aggregate-write-line
+slice-aggregate-write-line c = search needs
+
+slice-aggregate-write-line-2 : tie.Need-slice-aggregate-write-line-2
+slice-aggregate-write-line-2 c = search needs
+
+write-line-requires : tie.Need-write-line-requires
+write-line-requires c κs = search needs
 
 same-length : tie.Need-same-length
 same-length c = search needs
@@ -23,7 +29,8 @@ returns : tie.Need-returns
 unfolding refusalText
 returns c =
     let w = c .before .before in
-    rw (w .before .before .place .ensures, w .before .before .before .number .ensures) at (w .write-refused .ensures)
+    let k = w .before .before .before .before in
+    rw (k .place .ensures, k .before .number .ensures) at (w .write-line .ensures)
 
 pub list-refusal-spec : {M : Type 1} → statement M
 list-refusal-spec =
@@ -32,6 +39,8 @@ list-refusal-spec =
     number-requires
     cast-number
     place-requires
-    write-refused-requires
+    slice-aggregate-write-line
+    slice-aggregate-write-line-2
+    write-line-requires
     same-length
     returns)

@@ -1,38 +1,28 @@
 -- The head, the meets figures and the centres' numbers are those of the plan, so what `write_plan` writes is the plan.
 use borrow.Author.Needs.{needs}
-use mathlib.Core.Path.{_≡_, refl, ap, _∙_, subst}
+use mathlib.Core.Path.{_≡_, refl, ap, subst}
 use mathlib.Core.List.{List, map}
-use Prim.Native.Nat.{ℕ, _≤_, _<_}
+use Prim.Native.Nat.{ℕ, _≤_}
 use denote.Ref.{now}
 use lib.ListN.{length, getD, take}
 use Rattle.network.specs.Lists.{sum}
 use Rattle.network.specs.Plane.{distance}
-use Rattle.network.specs.Graph.{below, degree}
 use Rattle.network.specs.Pits.{pitsOf}
 use Rattle.groups.specs.Groups.{heads}
 use Rattle.route.specs.Route.{cornersOf}
 use Rattle.laying.specs.declared.Layout.{Layout}
 use Rattle.laying.specs.Lease.{LaidOut}
-use Rattle.grid.specs.Tables.{table, padded}
-use Rattle.intersection.specs.Centres.{joinedIn}
 use Rattle.job.specs.declared.Job.{Job}
 use Rattle.fields.specs.Bytes.{Wrote}
-use Rattle.plan.specs.Plan.{meetsOf}
 use native.Mathlib.Omega.{arith}
 use Rattle.planner.specs.Call.{runsOf}
 use Rattle.planner.specs.Held.{runsIn}
 use Rattle.planner.specs.Stages.{Leased, Heading}
-use Rattle.planner.proofs.Held.{held-few, length-plane}
-use Rattle.planner.proofs.Judged.{meets-judged, centre-listed, groups-judged}
-use Rattle.planner.proofs.Writing.{on-indexes, saved-word, centre-number, bytes-are, bytes-fit}
+use Rattle.planner.proofs.Held.{held-few}
+use Rattle.planner.proofs.Leased.{leased-meets, leased-centres, leased-listed, leased-groups}
+use Rattle.planner.proofs.Writing.{on-indexes, saved-word, bytes-are, bytes-fit}
 use Rattle.planner.proofs.writer.write.Statement.{statement}
 use Rattle.planner.proofs.writer.write.Tie as tie
-
--- the meets figures are the plan's
-meets-are : (j : Job) (sets centres : List ℕ) → Leased j sets centres → (ms : List ℕ)
-    → ms ≡ padded 32 (table (λ i. degree (joinedIn sets) (below 32) i) (j .count)) → (i : ℕ) → i < j .count → getD ms i 0 ≡ meetsOf (runsOf (runsIn j)) i
-meets-are j sets centres s ms e i h =
-    ap (λ l. getD l i 0) e ∙ meets-judged (runsOf (runsIn j)) (j .count) (held-few j (s .held)) (length-plane j) sets (s .sets) i h
 
 count-groups-requires : tie.Need-count-groups-requires
 count-groups-requires c κs = let p = c .before .before .pre in held-few _ (p .0 .held)
@@ -53,7 +43,7 @@ heading : (j : Job) (sets centres : List ℕ) → Leased j sets centres → (lai
 heading j sets centres S laid L groups total pits g few t p most =
     record {
       held = S .held;
-      groups-are = g ∙ groups-judged (runsOf (runsIn j)) (j .count) (held-few j (S .held)) (length-plane j) (S .stars) centres (S .centres-are);
+      groups-are = leased-groups j sets centres S groups g;
       few = few;
       total-is = t;
       saved-is = refl;
@@ -78,7 +68,7 @@ centre-numbers-requires c κs =
     let j = a .args .j in
     let p = a .pre .0 in
     let few = held-few j (p .held) in
-    (few, λ i h. omega (arith, few, centre-listed (runsOf (runsIn j)) (j .count) few (length-plane j) (p .stars) _ (p .centres-are) i h))
+    (few, leased-listed j _ _ p)
 
 write-plan-requires : tie.Need-write-plan-requires
 write-plan-requires c κs =
@@ -96,8 +86,8 @@ write-plan-requires c κs =
       on-indexes j (p .0 .held) (a .args .laid) (p .1),
       omega (
         arith,
-        bytes-fit j (p .0 .held) (a .args .laid) (p .1) (a .args .columns) (a .args .rows) (p .2) (m .result) (meets-are j (a .args .t2) (a .args .t3) (p .0) (m .result) (m .ensures))
-            (n .result) (centre-number j (p .0 .held) (a .args .laid) (p .1) (a .args .t2) (a .args .t3) (p .0) (n .result) (n .ensures)) (head .result) is,
+        bytes-fit j (p .0 .held) (a .args .laid) (p .1) (a .args .columns) (a .args .rows) (p .2) (m .result) (leased-meets j (a .args .t2) (a .args .t3) (p .0) (m .result) (m .ensures))
+            (n .result) (leased-centres j (a .args .t2) (a .args .t3) (p .0) (n .result) (n .ensures)) (head .result) is,
         p .3,
       ),
     )
@@ -118,8 +108,8 @@ returns c =
     let is = head .ensures (a .args .laid) (heading j (a .args .t2) (a .args .t3) (p .0) (a .args .laid) (p .1) _ _ _ (g .ensures .0) (g .ensures .1) (c .before .before .before .before .before .before .before .before .before .before .before .before .before .before .before .before .before .before .before .distances-of .ensures) (t .ensures .0) (t .ensures .1)) in
     let w = c .before .before .write-plan in
     subst (λ bs. Wrote bs (now (a .args .out)) (w .last .0) (w .result))
-    (bytes-are j (p .0 .held) (a .args .laid) (p .1) (a .args .columns) (a .args .rows) (p .2) (m .result) (meets-are j (a .args .t2) (a .args .t3) (p .0) (m .result) (m .ensures))
-    (n .result) (centre-number j (p .0 .held) (a .args .laid) (p .1) (a .args .t2) (a .args .t3) (p .0) (n .result) (n .ensures)) (head .result) is)
+    (bytes-are j (p .0 .held) (a .args .laid) (p .1) (a .args .columns) (a .args .rows) (p .2) (m .result) (leased-meets j (a .args .t2) (a .args .t3) (p .0) (m .result) (m .ensures))
+    (n .result) (leased-centres j (a .args .t2) (a .args .t3) (p .0) (n .result) (n .ensures)) (head .result) is)
     (w .ensures .0)
 
 pub write-spec : {M : Type 1} → statement M

@@ -1,0 +1,3 @@
+-- The laws of the choice.
+pub mod Cases
+pub mod Ours
