@@ -2,6 +2,7 @@
 
 use crate::job::Job;
 use crate::judge::Judge;
+use crate::listing::of_refusal;
 use crate::plan_book::PlanBook;
 use crate::refusal::{self, Refusal};
 
@@ -43,6 +44,19 @@ fn matches(job: &Job, book: &PlanBook) -> bool {
 /// An answer in words: `book 1`, or the refusal.
 pub fn told(choice: &Choice) -> String {
     choice.as_ref().map_or_else(ToString::to_string, |book| format!("book {book}"))
+}
+
+/// What people are told of a job book and two plan books: which book to stake from, and the trench figures of both; or the refusal.
+pub fn listing(job: &[u8], first: &[u8], second: &[u8]) -> String {
+    let trench = |bytes| PlanBook::read(bytes).expect("a book that is chosen is read").trench;
+    match choose(job, first, second) {
+        Ok(book) => {
+            let (chosen, other) = if book == 1 { (first, second) } else { (second, first) };
+            let (named, beside) = if book == 1 { ("first", "second") } else { ("second", "first") };
+            format!("stake from the {named} book: trench {}, the {beside} has {}\n", trench(chosen), trench(other))
+        }
+        Err(refused) => of_refusal(refused),
+    }
 }
 
 /// What an answer is counted as: the book to stake from, or the refusal's number and whose it is. A job's 8 has a run's place, which is

@@ -170,6 +170,22 @@ fn samples_with_their_plans() {
     }
 }
 
+/// The contractor's plans of job 7, beside ours, give what `samples/README.md` says.
+#[test]
+fn contractors() {
+    let read = |name: &str| std::fs::read(common::root().join("samples").join(name)).expect("a sample");
+    let (job, ours) = (read("job-7.job"), read("job-7.plan"));
+    let beside = |name: &str| {
+        let plan = read(&format!("contractor-{name}.plan"));
+        (answered(&job, &ours, &plan), answered(&job, &plan, &ours))
+    };
+    assert_eq!(beside("1-more"), ((1, 0), (2, 0)));
+    assert_eq!(beside("2-trench"), ((-16, 2), (-16, 1)));
+    assert_eq!(beside("3-detour"), ((-16, 2), (-16, 1)));
+    assert_eq!(beside("4-another-job"), ((-15, 2), (-15, 1)));
+    assert_eq!(samples("plan").iter().filter(|path| path.to_string_lossy().contains("contractor-")).count(), 4);
+}
+
 /// A book longer than any that is read, and one of staircases that is as long as a star's can be.
 #[test]
 fn long_books() {

@@ -115,12 +115,16 @@ fn read_by_the_archive(bytes: &[u8]) -> Result<PlanBook, Refusal> {
 /// The older plan books `earlier-NAME` are plans of `NAME` that were written when crossings did not count as pits.
 const EARLIER: &str = "earlier-";
 
+/// The plan books `contractor-NAME` are plans of `job-7` by others.
+const CONTRACTORS: &str = "contractor-";
+
 /// The file name of a sample.
 fn name(path: &Path) -> &str {
     path.file_name().and_then(|name| name.to_str()).expect("a name")
 }
 
-/// Beside each accepted job stands a plan of it whose listing is stored too; the damaged plan books are refused as stored.
+/// Beside each accepted job stands a plan of it whose listing is stored too; the damaged plan books are refused as stored. Any other
+/// plan book is a contractor's.
 #[test]
 fn stored_plans_are_what_is_listed() {
     for path in samples("plan") {
@@ -128,7 +132,8 @@ fn stored_plans_are_what_is_listed() {
         assert_eq!(listed(&plan), read(&path.with_extension("lst")), "{}", path.display());
         let by_archive = read_by_the_archive(&plan);
         assert_eq!(by_archive, PlanBook::read(&plan), "{}", path.display());
-        assert!(by_archive.is_err() || path.with_extension("job").exists(), "{}: whose plan is it?", path.display());
+        let job = path.with_extension("job").exists() || name(&path).starts_with(CONTRACTORS);
+        assert!(by_archive.is_err() || job, "{}: whose plan is it?", path.display());
     }
     for path in samples("job") {
         let job = std::fs::read(&path).expect("a sample");

@@ -8,7 +8,7 @@ use std::process::ExitCode;
 use trench_check::book;
 use trench_check::book_damage;
 use trench_check::cases;
-use trench_check::choice::{choose, told};
+use trench_check::choice::{self, choose, told};
 use trench_check::damage::{self, Damaged};
 use trench_check::enumerate;
 use trench_check::generate::{self, CROSSINGS, KINDS};
@@ -155,7 +155,7 @@ fn judged(job: &str, plan: &str) -> Result<(), String> {
 }
 
 fn chosen(job: &str, first: &str, second: &str) -> Result<(), String> {
-    println!("{}", told(&choose(&read(job)?, &read(first)?, &read(second)?)));
+    print!("{}", choice::listing(&read(job)?, &read(first)?, &read(second)?));
     Ok(())
 }
 

@@ -9,8 +9,6 @@ use std::process::ExitCode;
 use trench_archive::call::{Function, plan};
 use trench_check::book::job_bytes;
 use trench_check::book_cases::{count, route};
-use trench_check::foreign;
-use trench_check::graph::Survey;
 use trench_check::job::{Job, Point, Run};
 use trench_check::listing;
 use trench_check::plan_book::{HEAD_LENGTH, Kinds, PlanBook};
@@ -225,27 +223,31 @@ fn damaged_newer() -> Vec<(&'static str, Vec<u8>)> {
     ]
 }
 
-/// Plans of the job of document 01's listing as a contractor may send them: one that is true and digs more, and others that are not
-/// true, or are another job's.
+/// Plans of the job of document 01's listing as a contractor may send them: one that is true and digs more, two that are not true,
+/// and one of another job.
 fn contractors() -> Vec<(&'static str, PlanBook)> {
-    let survey = Survey::of(job_7());
-    let drawn = |corners: &[&[(i32, i32)]]| {
-        let point = |&(x, y): &(i32, i32)| Point::new(x, y);
-        let path = |route: &&[(i32, i32)]| {
-            survey.grid.path(&route.iter().map(point).collect::<Vec<_>>()).expect("corners are vertices")
-        };
-        foreign::book(&survey, &corners.iter().map(path).collect::<Vec<_>>())
-    };
     let with = |change: &dyn Fn(&mut PlanBook)| {
         let mut changed = plan_7();
         change(&mut changed);
+        count(&mut changed);
         changed
     };
-    let (along, upright) = (&[(0, 10), (40, 10)][..], &[(20, 20), (20, 50)][..]);
+    let points = |corners: &[(i32, i32)]| corners.iter().map(|&(x, y)| Point::new(x, y)).collect::<Vec<_>>();
+    let figures = |book: &mut PlanBook, trench: u32, saved: u32, pits: u16| {
+        (book.trench, book.saved, book.pits) = (trench, saved, pits);
+    };
+    let more = |book: &mut PlanBook| {
+        book.routes[0].corners = points(&[(0, 0), (0, 30), (40, 30)]);
+        figures(book, 140, 0, 8);
+    };
+    let detour = |book: &mut PlanBook| {
+        book.routes[1].corners = points(&[(0, 10), (0, 0), (40, 0), (40, 10)]);
+        figures(book, 150, 0, 7);
+    };
     vec![
-        ("1-more", drawn(&[&[(0, 0), (40, 0), (40, 30)], along, upright])),
-        ("2-trench", with(&|book| (book.trench, book.saved) = (90, 50))),
-        ("3-detour", drawn(&[&[(0, 0), (0, 10), (40, 10), (40, 30)], &[(0, 10), (0, 0), (40, 0), (40, 10)], upright])),
+        ("1-more", with(&more)),
+        ("2-trench", with(&|book| figures(book, 90, 50, 6))),
+        ("3-detour", with(&detour)),
         ("4-another-job", with(&|book| book.job = 8)),
     ]
 }
