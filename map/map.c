@@ -87,7 +87,7 @@ static const char *words(int32_t number)
         [TRENCH_NOT_WHOLE] = "the bytes are not whole records of a plan in order",
         [TRENCH_NO_TURN] = "a corner that stands twice, is not straight from the one before, or is no turn",
         [TRENCH_MISCOUNTED] = "a count that differs from what it counts, or a route with no corner",
-        [TRENCH_OTHER_JOB] = "another job's number, number of runs or run numbers",
+        [TRENCH_OTHER_JOB] = "a plan of another job, or of other runs",
         [TRENCH_UNTRUE] = "a plan of the older kinds, or one that is not true for the job",
     };
     bool known = number >= 0 && (size_t)number < sizeof meaning / sizeof *meaning && meaning[number];

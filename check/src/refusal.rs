@@ -41,7 +41,7 @@ pub fn words(number: i32) -> &'static str {
         13 => "a corner that stands twice, is not straight from the one before, or is no turn",
         14 => "a count that differs from what it counts, or a route with no corner",
         15 => "a plan of another job, or of other runs",
-        16 => "a plan of the older kinds, or not true",
+        16 => "a plan of the older kinds, or one that is not true for the job",
         _ => "no refusal",
     }
 }

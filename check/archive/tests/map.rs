@@ -1,5 +1,5 @@
-//! The map program, compiled with sanitizers: draws every corner and every crossing of every plan, planned or stored, makes job
-//! books of clicked points, and tells every refusal with its place.
+//! The map program, compiled with sanitizers: draws every corner and every crossing of every plan, planned, stored or chosen, makes
+//! job books of clicked points, and tells every refusal with its place.
 
 mod common;
 
@@ -656,6 +656,46 @@ fn stored_samples_are_drawn_or_refused() {
             Ok(book) => assert_stored(map, &book),
             Err(refused) => assert_told(map, &bytes, refused, &path.display().to_string()),
         }
+    }
+}
+
+/// The path of a sample.
+fn sample(name: &str) -> String {
+    root().join("samples").join(name).to_str().expect("a name").to_owned()
+}
+
+/// Of two plan books of a job the one to stake from is drawn, whichever stands first; a refusal names the book, or the job.
+#[test]
+fn the_book_to_stake_from_is_drawn() {
+    let map = map();
+    let [job, ours, more] = ["job-7.job", "job-7.plan", "contractor-1-more.plan"].map(sample);
+    for (first, second, chosen) in [(&ours, &more, &ours), (&more, &ours, &ours), (&more, &more, &more)] {
+        assert_eq!(drawn(map, &["--choose", &job, first, second], &[]), drawn(map, &["--plan", chosen], &[]));
+    }
+    let told = |job: &str, first: &str, second: &str| {
+        let output = run(map, &["--choose", job, first, second], &[]);
+        assert_eq!((output.status.code(), output.stdout.len()), (Some(1), 0), "{first} {second}");
+        text(&output.stderr)
+    };
+    for (name, number) in [
+        ("contractor-2-trench", 16),
+        ("contractor-4-another-job", 15),
+        ("refused-08-newer-corner", 8),
+        ("refused-12-cut", 12),
+    ] {
+        let book = sample(&format!("{name}.plan"));
+        for (place, which, said) in [(1, "first", told(&job, &book, &ours)), (2, "second", told(&job, &ours, &book))] {
+            assert_eq!(
+                said,
+                format!("map: {book}: refused {number} at {place}: the {which} book: {}\n", words(number))
+            );
+        }
+    }
+    for (name, number, place) in
+        [("refused-03-cut.job", 3, 24), ("refused-08-coordinate.job", 8, 24), ("groups-4-no-star.job", 11, 0)]
+    {
+        let job = sample(name);
+        assert_eq!(told(&job, &ours, &more), format!("map: {job}: refused {number} at {place}: {}\n", words(number)));
     }
 }
 

@@ -33,7 +33,7 @@ use Rattle.job.specs.Written.{Bytes}
 use Rattle.job.proofs.Prefix.{parse-prefix as job-prefix}
 use Rattle.fields.specs.Bytes.{Wrote}
 use Rattle.plan.specs.declared.Head.{Head}
-use Rattle.plan.specs.Plan.{Entry, bookBytes}
+use Rattle.plan.specs.Plan.{Entry}
 use Rattle.plan.proofs.Length.{book-most}
 use Rattle.book.specs.Right.{RightEntry}
 use Rattle.book.specs.Parse.{Parsed, accepted, refused, parsePlan}
