@@ -5,10 +5,10 @@ use mathlib.Core.List.{List, [], _∷_}
 use Prim.Native.Nat.{ℕ, zero, suc, _+_, _*_, _≤_, _<_}
 use native.Mathlib.Omega.{arith}
 use lib.ListN.{length, getD, drop, length-map, length-drop}
-use Rattle.network.specs.Lists.{All}
 use Rattle.network.specs.Plane.{Point, _to_}
 use Rattle.network.specs.Route.{Straight}
 use Rattle.network.specs.Graph.{origin}
+use Rattle.network.proofs.Lists.{index-member, all-member}
 use Rattle.job.specs.Fields.{word2, biasedOf}
 use Rattle.job.proofs.There.{word2-there, word4-there}
 use Rattle.plan.specs.declared.Head.{Head}
@@ -29,12 +29,6 @@ use Rattle.judge.specs.Judged.{entryAt}
 use Rattle.judge.specs.Steps.{ReadAs, cornerThere, Drawn}
 
 -- ---- lists
-
--- what holds of all elements holds of each
-all-at : {A : Type 0} (P : A → Type 0) (l : List A) (i : ℕ) (d : A) → All P l → i < length l → P (getD l i d)
-all-at P [] i d a h = absurd (omega arith)
-all-at P (x ∷ l) zero d a h = a .0
-all-at P (x ∷ l) (suc i) d a h = all-at P l i d (a .1) (omega arith)
 
 -- the entry of the route that stands in front of the rest
 front-entry : (ts : List Told) (i : ℕ) (t : Told) → drop i ts ≡ t ∷ drop (suc i) ts → i < length ts → entryAt (entriesOf ts) i ≡ t .entry
@@ -124,7 +118,7 @@ module _ (book places : List ℕ) (h : Head) (es : List Entry) (R : ReadAs book 
           ∙ ap (λ (e : Entry). e .centre) entry-is
 
       right : RightEntry (h .grouped) (entryAt es i)
-      right = all-at (RightEntry (h .grouped)) es i (entryAt [] 0) (accepted-right book h es (R .bytes) (R .parsed) .entries) k
+      right = all-member (RightEntry (h .grouped)) (accepted-right book h es (R .bytes) (R .parsed) .entries) (index-member (entryAt [] 0) es i k)
 
       stand : CornersAt book (getD places i 0 + 9) (begun (stood .walk)) (entryAt es i .corners)
       unfolding routeSize
@@ -153,6 +147,6 @@ module _ (book places : List ℕ) (h : Head) (es : List Entry) (R : ReadAs book 
             few = right .few;
             x-is = λ j l. there j l .1;
             y-is = λ j l. there j l .2;
-            in-range = λ j l. all-at PointIn cs j origin (right .in-range) l;
+            in-range = λ j l. all-member PointIn (right .in-range) (index-member origin cs j l);
             straight = turning-straight cs (right .turning);
           }

@@ -5,7 +5,7 @@
 use mathlib.Core.Path.{_≡_, refl, sym, ap, ap₂, _∙_, subst}
 use mathlib.Core.Logic.{_⊎_, inl, inr}
 use mathlib.Core.Bool.{Bool, true, false, cond, _&&_, _||_, true≢false}
-use mathlib.Core.List.{List, [], _∷_, List·Memᴰ as Member, List·Memᴰ·head as here, List·Memᴰ·tail as there, List·Memᴰ·not-nil, List·Memᴰ·cases-cons}
+use mathlib.Core.List.{List, [], _∷_, List·Memᴰ as Member, List·Memᴰ·not-nil, List·Memᴰ·cases-cons}
 use Prim.Native.Nat.{ℕ, suc, _*_, _+_, _≤_, _<_, max}
 use native.Mathlib.Omega.{arith}
 use borrow.Author.Tests.{ltb-true, lt-ltb}
@@ -20,7 +20,7 @@ use Rattle.network.specs.Corners.{samePoint}
 use Rattle.network.specs.Pits.{among, amid, passesRow, passesColumn, pitPoints, pitsOf}
 use Rattle.network.specs.Passes.{passes}
 use Rattle.network.proofs.Tests.{and-split, and-join, neither, same-test, true-level, Spans, lies-true, true-lies}
-use Rattle.network.proofs.Lists.{any-true, true-any}
+use Rattle.network.proofs.Lists.{any-true, true-any, any-false, all-member}
 use Rattle.network.proofs.Numbers.{order}
 use Rattle.network.proofs.Rising.{rising-le, beside, listed-max}
 use Rattle.network.proofs.Lanes.{point-path}
@@ -126,22 +126,12 @@ route-ends : (P : Point → Type 0) (route : Route) → All P route → (r : Run
 route-ends P [] h r m = absurd (List·Memᴰ·not-nil m)
 route-ends P (p ∷ l) h r m = ends-all P p l h r m
 
--- what holds of all elements holds of each
-all-member : {A : Type 0} (P : A → Type 0) {a : A} {l : List A} → All P l → Member a l → P a
-all-member P h (here e) = subst P (sym e) (h .0)
-all-member P h (there m) = all-member P (h .1) m
-
 -- where no route has a corner at v, the corners of each are elsewhere
 all-elsewhere : (v : Point) (l : List Point) → among v l ≡ false → All (Elsewhere v) l
 all-elsewhere v [] h = tt
 all-elsewhere v (p ∷ l) h =
     let (a, b) = neither (samePoint v p) (among v l) h in
     (λ e f. true≢false (sym (true-point v p (point-path (sym e) (sym f))) ∙ a), all-elsewhere v l b)
-
--- no element passes
-any-false : {A : Type 0} (t : A → Bool) {a : A} {l : List A} → any t l ≡ false → Member a l → t a ≡ false
-any-false t h (here {x} {xs} e) = ap t e ∙ neither (t x) (any t xs) h .0
-any-false t h (there {x} {xs} m) = any-false t (neither (t x) (any t xs) h .1) m
 
 module _ (g : Grid) (routes : List Route) (vertices : All (All (Vertex g)) routes) (d : Dir) (a k : ℕ) where
   -- some route is on an edge

@@ -8,7 +8,7 @@ use native.Mathlib.Nat.{eq-or-lt-of-le}
 use native.Mathlib.Omega.{arith}
 use lib.ListN.{length, getD, replicate}
 use Rattle.network.specs.Lists.{any, every, All, select, each}
-use Rattle.network.proofs.Tests.{and-split, and-join, or-split, or-join}
+use Rattle.network.proofs.Tests.{and-split, and-join, or-split, or-join, neither}
 
 -- where some element passes a test there is one that does, and back
 pub any-true : {A : Type 0} (t : A → Bool) (l : List A) → any t l ≡ true → (a : A) × Member a l × (t a ≡ true)
@@ -49,6 +49,16 @@ member-each {A} {a} (suc n) f i h m = go (eq-or-lt-of-le k) (member-each n f i)
     go : (i ≡ n) ⊎ (i < n) → (i < n → Member a (f i) → Member a (each n f)) → Member a (each n f ++ f n)
     go (inl e) rest = Memᴰ·append-right (each n f) (subst (λ j. Member a (f j)) e m)
     go (inr l) rest = Memᴰ·append-left (f n) (rest l m)
+
+-- where no element passes, each fails
+pub any-false : {A : Type 0} (t : A → Bool) {a : A} {l : List A} → any t l ≡ false → Member a l → t a ≡ false
+any-false t h (here {x} {xs} e) = ap t e ∙ neither (t x) (any t xs) h .0
+any-false t h (there {x} {xs} m) = any-false t (neither (t x) (any t xs) h .1) m
+
+-- what holds of all elements holds of each
+pub all-member : {A : Type 0} (P : A → Type 0) {a : A} {l : List A} → All P l → Member a l → P a
+all-member P h (here e) = subst P (sym e) (h .0)
+all-member P h (there m) = all-member P (h .1) m
 
 -- every element passes a test exactly if each does
 pub every-true : {A : Type 0} (t : A → Bool) {a : A} {l : List A} → every t l ≡ true → Member a l → t a ≡ true
