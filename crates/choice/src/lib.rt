@@ -31,10 +31,10 @@ fn choose_known(known: Known, first: &[u8], second: &[u8]) -> Choice
 {
     match judge::judge(first, 1, known) {
         Judgement::Refused(refusal) => Choice::Refused(refusal),
-        Judgement::Passed(ours) => match judge::judge(second, 2, known) {
+        Judgement::Passed(trench) => match judge::judge(second, 2, known) {
             Judgement::Refused(refusal) => Choice::Refused(refusal),
-            Judgement::Passed(theirs) => {
-                if ours <= theirs {
+            Judgement::Passed(other) => {
+                if trench <= other {
                     return Choice::First;
                 }
                 Choice::Second
