@@ -16,7 +16,7 @@ use Rattle.network.specs.Steps.{vertex}
 use Rattle.network.proofs.Tests.{and-split, and-join}
 use Rattle.network.proofs.Lanes.{point-path}
 use Rattle.network.proofs.Corners.{point-true}
-use Rattle.measure.specs.Marks.{Finds, found, nowhere, Held}
+use Rattle.measure.specs.Marks.{Finds, found, nowhere, Ruled}
 use Rattle.book.specs.declared.Corner.{Corner}
 use Rattle.judge.specs.Judged.{startsAt, endsAt, isVertex, isStraight, isManhattan}
 use Rattle.judge.specs.Steps.{cornerThere, Drawn, endsRight}
@@ -108,7 +108,7 @@ found-listed l table n v r rises same e (i, h, f) (nowhere o) =
     absurd (o (λ j k. omega (arith, same j (omega arith), same (suc j) (omega arith), rises j (omega arith))) i (omega arith) (same i h ∙ f))
 
 -- so is the vertex of a point
-pub found-vertex : {columns rows : List ℕ} {across down : ℕ} (g : Grid) (p : Point) (i j : ℕ) → Held g columns across rows down → Vertex g p
+pub found-vertex : {columns rows : List ℕ} {across down : ℕ} (g : Grid) (p : Point) (i j : ℕ) → Ruled g columns across rows down → Vertex g p
     → Finds columns across (p .x) i → Finds rows down (p .y) j → (i < across) × (j < down) × (vertex g i j ≡ p)
 found-vertex {columns} {rows} {across} {down} g p i j h v f k =
     let (a, x) = found-listed (g .columns) columns across (p .x) i (g .columns-rise) (h .tables .column-at) (h .across-is) (v .column) f in

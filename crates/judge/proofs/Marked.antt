@@ -22,7 +22,7 @@ use Rattle.job.specs.Fields.{word2}
 use Rattle.job.specs.Written.{InRange}
 use Rattle.plan.specs.declared.Head.{Head}
 use Rattle.plan.specs.Plan.{Entry}
-use Rattle.measure.specs.Marks.{places, edgeOn, edgeBehind, cell, isMarked, Told, Held as Ruled}
+use Rattle.measure.specs.Marks.{places, edgeOn, edgeBehind, cell, isMarked, Told, Ruled}
 use Rattle.planner.specs.Held.{runIn, Held}
 use Rattle.planner.proofs.Held.{length-held, held-at, plane-held}
 use Rattle.judge.specs.True.{drawnIn}

@@ -24,7 +24,7 @@ use Rattle.book.specs.Parse.{accepted, parsePlan}
 use Rattle.book.specs.Reading.{placesOf}
 use Rattle.book.specs.declared.Corner.{Corner}
 use Rattle.route.specs.declared.Vertex.{Vertex}
-use Rattle.measure.specs.Marks.{isMarked, Marked, Held as Ruled}
+use Rattle.measure.specs.Marks.{isMarked, Marked, Ruled}
 use Rattle.planner.specs.Call.{runsOf, numbersOf}
 use Rattle.planner.specs.Held.{runsIn, Held}
 use Rattle.planner.specs.Stages.{Lined}

@@ -31,7 +31,7 @@ use Rattle.measure.specs.Marks.{
   Finds,
   found,
   nowhere,
-  Held,
+  Ruled,
   pointOf,
   Arrived,
   astray,
@@ -202,7 +202,7 @@ pub found-line : (lines : List ℕ) (n v r : ℕ) → Finds lines n v r → (r �
 found-line lines n v r (found i h e) o = h
 found-line lines n v r (nowhere m) o = absurd (o refl)
 
-module _ (g : Grid) (columns rows : List ℕ) (across down : ℕ) (held : Held g columns across rows down) where
+module _ (g : Grid) (columns rows : List ℕ) (across down : ℕ) (held : Ruled g columns across rows down) where
   -- the columns of the table rise
   pub held-columns : RisingTo columns across
   held-columns j l =
@@ -215,7 +215,7 @@ module _ (g : Grid) (columns rows : List ℕ) (across down : ℕ) (held : Held g
       let k : suc j < length (g .rows) = omega (arith, held .down-is) in
       omega (arith, held .tables .row-at j (omega arith), held .tables .row-at (suc j) k, g .rows-rise j k)
 
-module _ (g : Grid) (columns rows : List ℕ) (across down : ℕ) (few-columns : across ≤ 64) (few-rows : down ≤ 64) (held : Held g columns across rows down)
+module _ (g : Grid) (columns rows : List ℕ) (across down : ℕ) (few-columns : across ≤ 64) (few-rows : down ≤ 64) (held : Ruled g columns across rows down)
     (from : Vertex) (x y : ℕ) where
   -- up or down the column: no row is at y
   pub astray-up : (right up right′ up′ : List ℕ) (t : ℕ) → Finds rows down y t → t ≡ 64

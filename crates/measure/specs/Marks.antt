@@ -74,7 +74,7 @@ pub data Finds (lines : List ℕ) (n v : ℕ) : ℕ → Type 0 where
   nowhere : (RisingTo lines n → (i : ℕ) → i < n → getD lines i 0 ≡ v → ⊥) → Finds lines n v 64
 
 -- the tables begin with the lines of the grid, of which there are so many
-pub record Held (g : Grid) (columns : List ℕ) (across : ℕ) (rows : List ℕ) (down : ℕ) : Type 0 where
+pub record Ruled (g : Grid) (columns : List ℕ) (across : ℕ) (rows : List ℕ) (down : ℕ) : Type 0 where
   pub tables : Tables g columns rows
   pub across-is : across ≡ length (g .columns)
   pub down-is : down ≡ length (g .rows)

@@ -5,7 +5,7 @@ ghost use mathlib.Core.Path.{_≡_};
 ghost use Prim.Native.Nat.{_≤_, _<_, min, max};
 ghost use lib.ListN.{length};
 ghost use Rattle.network.specs.Grid.{Grid};
-ghost use Rattle.measure.specs.Marks.{directionOf, cell, Stretched, Finds, Held, Arrived};
+ghost use Rattle.measure.specs.Marks.{directionOf, cell, Stretched, Finds, Ruled, Arrived};
 ghost use Rattle.measure.specs.Measured.{Short, rowTrench, rowPits, trenchIn, pitsIn};
 
 // The length of a union, and the number of pits.
@@ -69,7 +69,7 @@ pub fn mark_piece(
 ) -> Vertex
     requires { ⌜ (across ≤ 64) × (down ≤ 64) × (from .column < across) × (from .row < down) × (length (now right) ≡ 4096) × (length (now up) ≡ 4096) ⌝ }
     ensures { λ v. ⌜ (length (now (right .exit)) ≡ 4096) × (length (now (up .exit)) ≡ 4096)
-        × ((g : Grid) → Held g (now (columns .entry)) across (now (rows .entry)) down
+        × ((g : Grid) → Ruled g (now (columns .entry)) across (now (rows .entry)) down
         → Arrived g from (record { x = x; y = y }) (now (right .entry)) (now (up .entry)) (now (right .exit)) (now (up .exit)) v) ⌝ }
 {
     let column = from.column;
