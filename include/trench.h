@@ -5,13 +5,13 @@
  * two's complement. Each record is one byte of kind, then a body:
  *
  *   job book    0x48 head     job number (4)
- *               0x52 run      run number (2), first x, first y, second x, second y (4 each)
+ *               0x52 run      run number (2), first x, first y, second x, second y (4 each); the two points differ
  *               0x5A end      number of runs (2), from 0 to 32
  *
  *   plan book   0x51 head     job number (4), runs (2), trench (4), saved (4), pits (2), groups (2)
  *               0x4F route    run number, meets, corners, the run number of the group's centre (2 each); one a run, in job order,
  *                             each followed by its corners
- *               0x43 corner   x, y (4 each); from the run's first point to its second
+ *               0x43 corner   x, y (4 each); from the run's first point to its second, at least these two
  *               0x5A end      total of corners (2)
  *
  * Two runs are in one group when a chain of meetings joins them; the centre of a group meets every other run of it, and no two
@@ -67,13 +67,13 @@ extern "C" {
 /* The refusals, of jobs by trench_plan, of lists of runs by trench_job, of plan books by trench_read, and of a job and two plan
  * books by trench_choose. Where several apply, the answer is the first:
  *
- *   job         2; then the records front to back, and within a record 4, 3, 5, 9, 7, 8, 6; last 11. No call answers -10: a
+ *   job         2; then the records front to back, and within a record 4, 3, 5, 9, 7, 8, 17, 6; last 11. No call answers -10: a
  *               job without runs is planned.
- *   list        3; 9; then the runs front to back, and within a run 7, 8; last 2.
+ *   list        3; 9; then the runs front to back, and within a run 7, 8, 17; last 2.
  *   plan book   the records front to back, and within a record 12, 8, 13; 14 only where nothing else is wrong, in the book's
- *               order: the head's runs, each route's corners, the end's total.
- *   choice      the job's 3 to 9 and 11 in the order above; then the first book's, as of a plan book, then 15, then 16; then the
- *               second's likewise.
+ *               order: the head's runs, each route's corners, the end's total. Never 17: a stored route may have one corner.
+ *   choice      the job's 3 to 9, 17 and 11 in the order above; then the first book's, as of a plan book, then 15, then 16; then
+ *               the second's likewise.
  *
  * The place of a job's and of a plan book's refusal is that of the kind byte of the record at fault, from 0. With 3 and 12 it is
  * the length where the bytes end behind a record that is no end; with 5 and 12 it is the byte after the end record where there is
@@ -101,9 +101,10 @@ enum trench_refusal {
                                 * route with no corner */
     TRENCH_OTHER_JOB = 15,     /* a book of another job: its job number, its number of runs or its run numbers in order are not
                                 * the job's */
-    TRENCH_UNTRUE = 16         /* a book of the older kinds, or not true for the job: a route that is no Manhattan path of its run
+    TRENCH_UNTRUE = 16,        /* a book of the older kinds, or not true for the job: a route that is no Manhattan path of its run
                                 * on the job's grid, trench, saved or pits that are not those of its routes, or meets, groups
                                 * or centres that are not those of the job */
+    TRENCH_COINCIDENT = 17     /* a run whose two points coincide */
 };
 
 /* Plans a job.
@@ -113,6 +114,7 @@ enum trench_refusal {
  * Accepted: the plan book fills the first bytes of `out`, as many as the answer says; no later byte is changed. Every route
  * runs from its run's first point to its second along survey lines and is as long as their Manhattan distance; `trench` is
  * the length of the routes' union, and no routes for these runs on the survey lines have a shorter one, all groups together.
+ * The two points of a run differ, so every route has two corners or more.
  * A job without runs has no group, and a plan of 22 bytes: a head whose figures are all 0, no route, and an end.
  * Refused: no byte of `out` is changed. The bytes of `job` are never changed.
  *
@@ -158,8 +160,8 @@ size_t trench_job_place(uint32_t number, const int32_t *runs, size_t runs_len, c
  *
  * The functions below read a plan book. Each is lent the book alone, and some a few words for its answer. Every plan that
  * trench_plan wrote is read. Whose job it is, the store knows: trench, saved, pits, groups, run numbers, meets and centres are
- * given as they stand, and only trench_choose judges them. A route may have one corner, where its run's two points coincide.
- * Routes and corners are counted from 0.
+ * given as they stand, and only trench_choose judges them. A route of a stored plan may have one corner: earlier planners wrote
+ * that for a run whose two points coincide, which is refused today. Routes and corners are counted from 0.
  *
  *     uint32_t places[TRENCH_PLACES], route[TRENCH_ROUTE];
  *     int32_t corner[TRENCH_CORNER];

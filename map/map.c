@@ -89,6 +89,7 @@ static const char *words(int32_t number)
         [TRENCH_MISCOUNTED] = "a count that differs from what it counts, or a route with no corner",
         [TRENCH_OTHER_JOB] = "a plan of another job, or of other runs",
         [TRENCH_UNTRUE] = "a plan of the older kinds, or one that is not true for the job",
+        [TRENCH_COINCIDENT] = "a run whose two points coincide",
     };
     bool known = number >= 0 && (size_t)number < sizeof meaning / sizeof *meaning && meaning[number];
     return known ? meaning[number] : "a refusal that this program does not know";
@@ -217,7 +218,9 @@ static void refuse_last_point(const struct runs *runs)
 /* Tells the refusal of a list. Where its place is a run's index, the run is named too: that of index 0 is run 1. */
 static void refuse_runs(const char *name, int32_t number, size_t place)
 {
-    if (number != TRENCH_RUN_NUMBER && number != TRENCH_COORDINATE && number != TRENCH_TOO_MANY_RUNS)
+    bool of_run = number == TRENCH_RUN_NUMBER || number == TRENCH_COORDINATE || number == TRENCH_TOO_MANY_RUNS ||
+                  number == TRENCH_COINCIDENT;
+    if (!of_run)
         refuse(name, number, place);
     fprintf(stderr, "map: %s: refused %" PRId32 " at %zu: run %zu: %s\n", name, number, place, place + 1, words(number));
     exit(REFUSED);
@@ -270,7 +273,8 @@ static void read_book(const char *name, struct book *book)
  * job. No run's record stands at these places of a job, so that 8 there is a book's. */
 static void refuse_choice(const char *name, const struct book *books, int32_t number, size_t place)
 {
-    bool of_book = (number == TRENCH_COORDINATE || number >= TRENCH_NOT_WHOLE) && (place == 1 || place == 2);
+    bool has_it = number == TRENCH_COORDINATE || (number >= TRENCH_NOT_WHOLE && number <= TRENCH_UNTRUE);
+    bool of_book = has_it && (place == 1 || place == 2);
     if (!of_book)
         refuse(name, number, place);
     fprintf(stderr, "map: %s: refused %" PRId32 " at %zu: the %s book: %s\n", books[place - 1].name, number, place,

@@ -78,6 +78,8 @@ static int read_run(struct job *job, const uint8_t *body)
     for (int end = 0; end < 2; end++)
         if (outside(run->x[end]) || outside(run->y[end]))
             return 8;
+    if (run->x[0] == run->x[1] && run->y[0] == run->y[1])
+        return 17;
     job->count++;
     return 0;
 }
@@ -434,7 +436,7 @@ static uint32_t fill(const struct frame *restrict f, uint32_t *restrict table)
             put_cell(to, x, y);
         }
     }
-    return larger(larger(x.any, y.any), f->w + f->h == 2);
+    return larger(x.any, y.any);
 }
 
 #else
@@ -601,8 +603,7 @@ static void put_route(struct sink *s, int i, const struct path *p)
         else
             (to_column ? s->along_column : s->along_row)[column] |= (uint64_t)1 << row;
     }
-    if (p->count > 1)
-        put_corner(s, p->column[p->count - 1], p->row[p->count - 1]);
+    put_corner(s, p->column[p->count - 1], p->row[p->count - 1]);
     uint32_t count = s->corners - before;
     s->bytes[count_at] = (uint8_t)count;
     s->bytes[count_at + 1] = (uint8_t)(count >> 8);

@@ -10,7 +10,7 @@ use crate::refusal::{self, Refusal};
 pub type Choice = Result<usize, Refusal>;
 
 /// The refusals of a job, with their own places.
-pub const OF_JOB: [i32; 8] = [3, 4, 5, 6, 7, 8, 9, 11];
+pub const OF_JOB: [i32; 9] = [3, 4, 5, 6, 7, 8, 9, 11, 17];
 /// The refusals of a book: those of the reader, and then those of a book that is read.
 pub const OF_BOOK: [i32; 6] = [8, 12, 13, 14, 15, 16];
 /// A book whose job number, run count or run numbers in order differ from the job's.
@@ -60,7 +60,7 @@ pub fn listing(job: &[u8], first: &[u8], second: &[u8]) -> String {
 }
 
 /// What an answer is counted as: the book to stake from, or the refusal's number and whose it is. A job's 8 has a run's place, which is
-/// above 2.
+/// above 2; 17 is always the job's.
 pub fn outcome(choice: &Choice) -> String {
     match choice {
         Ok(book) => format!("stake from {book}"),

@@ -56,9 +56,9 @@ pub struct Case {
     pub what: String,
 }
 
-/// Jobs that every comparison starts with: a blank one, the surveyed examples of document 01, jobs at the limits, and leases of
-/// several groups, some of which are no stars.
-pub(crate) const SPECIAL: [&str; 36] = [
+/// Jobs that every comparison starts with: a blank one, the surveyed examples of document 01, jobs at the limits, leases of several
+/// groups, some of which are no stars, and jobs of which some run goes nowhere (02, C-18).
+pub(crate) const SPECIAL: [&str; 42] = [
     "# blank",
     "5,5 5,5",
     "0,0 3,4",
@@ -78,11 +78,14 @@ pub(crate) const SPECIAL: [&str; 36] = [
     "1000000,-1000000 -1000000,1000000; -1000000,-1000000 1000000,1000000",
     "-1000000,0 1000000,0; -1000000,1000000 -999999,-1000000; 999999,1000000 1000000,-1000000",
     "1000000,1000000 1000000,1000000",
+    "1000000,1000000 1000000,999999",
+    "-1000000,-1000000 -999999,-1000000",
     "-1000000,-1000000 -1000000,1000000; -1000000,999999 -1000000,-1000000",
     "0,0 1,0; 0,0 0,1",
+    "5,6 6,5; 5,5 5,6; 5,5 6,5; 6,5 6,6",
     "0,0 2,2; 0,0 2,2; 2,2 4,4; 2,2 4,4",
-    "0,0 2,2; 2,2 4,4; 0,0 2,2; 2,2 4,4; 4,4 4,4",
-    "0,0 4,4; 1,1 2,2; 10,0 14,4; 11,1 12,2; 30,30 30,30",
+    "0,0 2,2; 2,2 4,4; 0,0 2,2; 2,2 4,4; 4,4 4,5",
+    "0,0 4,4; 1,1 2,2; 10,0 14,4; 11,1 12,2; 30,30 31,30",
     "10,0 14,4; 11,3 12,2; 13,1 14,0; 0,0 0,4; 0,1 0,9",
     "0,0 9,0; 0,0 0,9; 0,3 1,9; 4,2 8,6; 5,3 6,4; 5,0 9,0",
     "0,0 6,6; 3,3 3,3; 0,6 0,6; 9,9 9,9; 7,0 7,0",
@@ -92,8 +95,11 @@ pub(crate) const SPECIAL: [&str; 36] = [
     "0,0 2,0; 1,0 3,0; 5,0 7,0; 6,0 9,0; 2,0 6,0",
     "0,0 2,0; 5,0 7,0; 1,0 6,0; 9,0 9,9",
     "5,5 5,5; 5,5 5,5; 5,5 5,5",
+    "0,0 2,2; 2,2 4,4; 0,0 2,2; 2,2 4,4; 4,4 4,4",
+    "0,0 3,4; 0,0 3,4; 0,0 3,4; 9,9 9,9",
     "4,0 6,2; 0,0 2,2; 4,0 6,2; 0,0 2,2; 4,0 6,2",
     "0,0 1,1; 1,1 2,2; 2,2 3,3; 3,3 4,4; 1,0 2,1; 2,1 3,2",
+    "0,0 0,1; 0,0 1,0; 1,1 0,1; 1,1 1,0; 0,1 0,2",
     "-1000000,-1000000 0,0; 0,0 1000000,1000000; -1000000,1000000 0,0; 0,0 1000000,-1000000",
 ];
 
@@ -102,10 +108,18 @@ pub(crate) fn special(words: &str) -> Job {
     line::parse(words, 7).expect("a job line").unwrap_or(Job { number: 7, runs: Vec::new() })
 }
 
+/// The refusal of a special job of which a run goes nowhere: it stands at the first of them. Nothing else of such a job is wrong but
+/// that some group may be no star.
+pub(crate) fn nowhere(job: &Job) -> Option<Refusal> {
+    let at = job.runs.iter().position(|run| run.first == run.second)?;
+    Some(Refusal { number: 17, place: 5 + 19 * at })
+}
+
 /// The n-th case of a seed. The first are special ones, the same for every seed.
 pub fn case(seed: u64, n: u64) -> Case {
     if let Some(words) = SPECIAL.get(n as usize) {
-        return Case { bytes: job_bytes(&special(words)), made_wrong: None, what: format!("special: {words}") };
+        let job = special(words);
+        return Case { bytes: job_bytes(&job), made_wrong: nowhere(&job), what: format!("special: {words}") };
     }
     let n = n - SPECIAL.len() as u64;
     if let Some(byte) = n.checked_sub(1).filter(|&byte| byte < 256) {
@@ -198,7 +212,7 @@ fn due(case: &Case, report: &mut Report, faults: &mut Vec<String>) -> Due {
         && due.as_ref().err() != Some(&made)
     {
         let read = due.as_ref().map_or_else(ToString::to_string, |_| "accepted".to_string());
-        faults.push(format!("the two readings of document 01 differ: made to be {made}, but read as {read}"));
+        faults.push(format!("the two readings of documents 01 and 02 differ: made to be {made}, but read as {read}"));
     }
     match &due {
         Ok(survey) => {
@@ -210,6 +224,9 @@ fn due(case: &Case, report: &mut Report, faults: &mut Vec<String>) -> Due {
             *report.refused.entry(refused.number).or_default() += 1;
             if let Some(job) = refusal::read(&case.bytes).ok().filter(|_| refused.number == 11) {
                 count_facts(&Survey::of(job), report);
+            }
+            if refused.number == 17 {
+                *report.kinds.entry(facts::NOWHERE.to_string()).or_default() += 1;
             }
         }
     }

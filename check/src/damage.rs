@@ -1,8 +1,10 @@
-//! Job books that something damaged or cut, each with the refusal that document 01 gives for it. The refusal follows from how
-//! the damage was done, and not from reading the book: so it is a second opinion on every reader.
+//! Job books that something damaged or cut, or that were typed wrong, each with the refusal that documents 01 and 02 give for it. The
+//! refusal follows from how the damage was done, and not from reading the book: so it is a second opinion on every reader.
+
+use std::ops::Range;
 
 use crate::book::{END, JOB_HEAD, RUN, job_bytes};
-use crate::generate::{self, KINDS};
+use crate::generate::{self, KINDS, numbered};
 use crate::job::{FAR, Job, MOST_RUNS, Point, Run, TOP_NUMBER};
 use crate::leases::{self, LAYOUTS};
 use crate::random::Random;
@@ -25,7 +27,10 @@ fn offset(record: usize) -> usize {
 }
 
 /// The number of ways in which `damaged` damages a book.
-pub const WAYS: usize = 20;
+pub const WAYS: usize = 30;
+
+/// Those of them in which some run goes nowhere, whether that is what is told or not.
+pub const NOWHERE: Range<usize> = 20..30;
 
 /// A whole job damaged in the way of this number, below `WAYS`.
 pub fn damaged(random: &mut Random, way: usize) -> Damaged {
@@ -47,14 +52,24 @@ pub fn damaged(random: &mut Random, way: usize) -> Damaged {
         9 => wrong_number(random, job, some_run, false),
         10 => wrong_number(random, job, some_run, true),
         11 => wrong_coordinate(random, job, some_run),
-        12 => one_run_too_many(random, false),
-        13 => one_run_too_many(random, true),
+        12 => one_run_too_many(random, false, false),
+        13 => one_run_too_many(random, true, false),
         14 => head_for_run(random, bytes, some_run),
         15 => end_for_run(random, job, some_run),
         16 => other_kind_for_end(random, bytes, end),
         17 => other_kind_for_head(random, bytes),
         18 => no_star(random),
-        _ => no_end(random, bytes, end),
+        19 => no_end(random, bytes, end),
+        20 => nowhere(random, job),
+        21 => nowhere_then_anything(random, job, some_run),
+        22 => nowhere_outside(random, job, some_run),
+        23 => nowhere_and_number(random, job, some_run),
+        24 => nowhere_then_other(random, job, some_run),
+        25 => other_then_nowhere(random, job),
+        26 => nowhere_and_count(random, job, some_run),
+        27 => nowhere_in_no_star(random),
+        28 => one_run_too_many(random, false, true),
+        _ => nowhere_not_looked_at(random, job, some_run),
     }
 }
 
@@ -208,14 +223,16 @@ fn wrong_coordinate(random: &mut Random, mut job: Job, record: usize) -> Damaged
     made("wrong coordinate", bytes, 8, place)
 }
 
-/// A book of 33 runs, the last of which may hold anything; whole or cut.
-fn one_run_too_many(random: &mut Random, cut: bool) -> Damaged {
+/// A book of 33 runs, the last of which may hold anything, or goes nowhere; whole or cut.
+fn one_run_too_many(random: &mut Random, cut: bool, goes_nowhere: bool) -> Damaged {
     let mut job = generate::full_star(random);
     for (run, number) in job.runs.iter_mut().zip(1..) {
         run.number = number;
     }
     let mut last = Run { number: 33, first: Point::new(0, 0), second: Point::new(1, 1) };
-    if random.once_in(2) {
+    if goes_nowhere {
+        coincide(random, &mut last);
+    } else if random.once_in(2) {
         last.number = random.word() as u16;
         put_outside(random, &mut last);
     }
@@ -226,7 +243,8 @@ fn one_run_too_many(random: &mut Random, cut: bool) -> Damaged {
         let length = place + 1 + random.below(18);
         return made("33rd run, cut", bytes[..length].to_vec(), 3, place);
     }
-    made("33rd run", then_anything(random, &bytes, place + 19), 9, place)
+    let what = if goes_nowhere { "33rd run, whose points coincide" } else { "33rd run" };
+    made(what, then_anything(random, &bytes, place + 19), 9, place)
 }
 
 fn head_for_run(random: &mut Random, mut bytes: Vec<u8>, record: usize) -> Damaged {
@@ -262,6 +280,118 @@ fn other_kind_for_head(random: &mut Random, mut bytes: Vec<u8>) -> Damaged {
 /// A well-formed job of which some group is no star.
 fn no_star(random: &mut Random) -> Damaged {
     made("no star", job_bytes(&leases::broken_lease(random)), 11, 0)
+}
+
+/// Puts both points of a run on one: the first, the second, 0,0 or a corner of the range.
+fn coincide(random: &mut Random, run: &mut Run) {
+    let [x, y] = [0; 2].map(|_| *random.pick(&[-FAR, FAR]));
+    let point = *random.pick(&[run.first, run.second, Point::new(0, 0), Point::new(x, y)]);
+    (run.first, run.second) = (point, point);
+}
+
+/// A job of which the first run goes nowhere, or the last, or any, and perhaps some behind it. Every group of it is a star: but for
+/// this fault it would be planned.
+fn nowhere(random: &mut Random, mut job: Job) -> Damaged {
+    let runs = job.runs.len();
+    let any = 1 + random.below(runs);
+    let record = *random.pick(&[1, any, runs]);
+    coincide(random, &mut job.runs[record - 1]);
+    if random.once_in(3) {
+        job.runs[record..].iter_mut().for_each(|run| coincide(random, run));
+    }
+    made("points that coincide", job_bytes(&job), 17, offset(record))
+}
+
+fn nowhere_then_anything(random: &mut Random, mut job: Job, record: usize) -> Damaged {
+    coincide(random, &mut job.runs[record - 1]);
+    let place = offset(record);
+    let bytes = then_anything(random, &job_bytes(&job), place + 19);
+    made("points that coincide, then anything", bytes, 17, place)
+}
+
+/// A run whose points are one, outside the range in x, in y or in both.
+fn nowhere_outside(random: &mut Random, mut job: Job, record: usize) -> Damaged {
+    let run = &mut job.runs[record - 1];
+    let (Point { x, y }, far) = (run.first, outside(random));
+    let point = *random.pick(&[Point::new(far, y), Point::new(x, far), Point::new(far, far)]);
+    (run.first, run.second) = (point, point);
+    let place = offset(record);
+    let bytes = then_anything(random, &job_bytes(&job), place + 19);
+    made("points that coincide outside the range", bytes, 8, place)
+}
+
+fn nowhere_and_number(random: &mut Random, mut job: Job, record: usize) -> Damaged {
+    coincide(random, &mut job.runs[record - 1]);
+    Damaged { what: "wrong run number, and points that coincide", ..wrong_number(random, job, record, false) }
+}
+
+/// A run that goes nowhere, and behind it a run with a wrong number or a wrong coordinate, a record of unknown kind, or a byte after
+/// the end.
+fn nowhere_then_other(random: &mut Random, mut job: Job, record: usize) -> Damaged {
+    coincide(random, &mut job.runs[record - 1]);
+    let (runs, mut whole) = (job.runs.len(), job_bytes(&job));
+    let later = (record < runs).then(|| record + 1 + random.below(runs - record));
+    let bytes = match (random.below(4), later) {
+        (0, Some(later)) => wrong_number(random, job, later, false).bytes,
+        (1, Some(later)) => wrong_coordinate(random, job, later).bytes,
+        (2, _) => {
+            whole[offset(later.unwrap_or(runs + 1))] = some_unknown_kind(random);
+            whole
+        }
+        _ => after_end(random, whole).bytes,
+    };
+    made("points that coincide before another fault", bytes, 17, offset(record))
+}
+
+/// A run with a wrong number or a wrong coordinate, and behind it one that goes nowhere.
+fn other_then_nowhere(random: &mut Random, job: Job) -> Damaged {
+    let mut job = if job.runs.len() > 1 { job } else { generate::full_star(random) };
+    let record = 1 + random.below(job.runs.len() - 1);
+    let later = record + 1 + random.below(job.runs.len() - record);
+    coincide(random, &mut job.runs[later - 1]);
+    let run = &mut job.runs[record - 1];
+    let number = if random.once_in(2) {
+        run.number = *random.pick(&[0, 10_000]);
+        7
+    } else {
+        put_outside(random, run);
+        8
+    };
+    made("another fault before points that coincide", job_bytes(&job), number, offset(record))
+}
+
+fn nowhere_and_count(random: &mut Random, mut job: Job, record: usize) -> Damaged {
+    coincide(random, &mut job.runs[record - 1]);
+    let runs = job.runs.len();
+    let miscounted = wrong_count(random, job_bytes(&job), offset(runs + 1), runs);
+    made("points that coincide, and a wrong count", miscounted.bytes, 17, offset(record))
+}
+
+/// A job of which some group is no star, with one run more, which goes nowhere.
+fn nowhere_in_no_star(random: &mut Random) -> Damaged {
+    let runs = leases::broken_lease(random).runs;
+    let mut points: Vec<(Point, Point)> = runs.iter().map(|run| (run.first, run.second)).collect();
+    points.truncate(MOST_RUNS - 1);
+    let (at, point) = (random.below(points.len() + 1), random.pick(&points).0);
+    points.insert(at, (point, point));
+    made("points that coincide, and no star", job_bytes(&numbered(random, &points)), 17, offset(at + 1))
+}
+
+/// A run that goes nowhere in a record of unknown kind, in one that is cut, or as the first record.
+fn nowhere_not_looked_at(random: &mut Random, mut job: Job, record: usize) -> Damaged {
+    coincide(random, &mut job.runs[record - 1]);
+    let (mut bytes, place) = (job_bytes(&job), offset(record));
+    match random.below(3) {
+        0 => {
+            bytes[place] = some_unknown_kind(random);
+            made("points that coincide in an unknown record", bytes, 4, place)
+        }
+        1 => {
+            bytes.truncate(place + 1 + random.below(18));
+            made("points that coincide in a cut record", bytes, 3, place)
+        }
+        _ => made("points that coincide in place of a head", bytes[place..].to_vec(), 5, 0),
+    }
 }
 
 /// A book with one byte changed, cut out or put in: whatever is due for it.

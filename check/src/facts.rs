@@ -1,4 +1,4 @@
-//! What is special about a job of several groups: what a comparison must have tried often enough.
+//! What is special about a job, most of all about one of several groups: what a comparison must have tried often enough.
 
 use crate::graph::Survey;
 use crate::job::{Area, Point, Run};
@@ -11,12 +11,15 @@ pub const ALL: [&str; 9] = [
     "groups that cross",
     "a group inside another's bounds",
     "a group on another's lines",
-    "a point beside others",
-    "a point in another's box",
     "no star beside stars",
+    "a run along a row",
+    "a run along a column",
 ];
 
-/// The facts that hold of a job.
+/// What is told besides of a job that is refused with 17.
+pub const NOWHERE: &str = "a run that goes nowhere";
+
+/// The facts that hold of a well-formed job.
 pub fn of(survey: &Survey) -> Vec<&'static str> {
     let Survey { job, graph, .. } = survey;
     let groups = graph.groups();
@@ -36,24 +39,20 @@ pub fn of(survey: &Survey) -> Vec<&'static str> {
         stars && of_two(cross),
         stars && pairs().any(|(a, b)| inside(a, b)),
         stars && of_two(has_line_of),
-        stars && of_two(|p, _| is_point(p)),
-        stars && of_two(|p, q| is_point(p) && q.area().holds(p.first)),
         !stars && groups.iter().any(|group| group.len() > 1 && star(group)),
+        stars && job.runs.iter().any(|run| run.first.y == run.second.y),
+        stars && job.runs.iter().any(|run| run.first.x == run.second.x),
     ];
     ALL.into_iter().zip(holds).filter(|(_, holds)| *holds).map(|(fact, _)| fact).collect()
 }
 
-fn is_point(run: &Run) -> bool {
-    run.first == run.second
-}
-
-/// Whether two runs that are no points have a corner of a box in common, and so one point.
+/// Whether two runs have a corner of their boxes in common.
 fn touch(p: &Run, q: &Run) -> bool {
     let corners = |area: Area| {
         let Area { low, high } = area;
         [low, high, Point::new(low.x, high.y), Point::new(high.x, low.y)]
     };
-    !is_point(p) && !is_point(q) && corners(p.area()).iter().any(|corner| corners(q.area()).contains(corner))
+    corners(p.area()).iter().any(|corner| corners(q.area()).contains(corner))
 }
 
 /// Whether a run along a row and one along a column cross where neither ends.
@@ -79,9 +78,9 @@ fn bounds(runs: &[Run]) -> Area {
     Area { low: Point::new(least(|p| p.x), least(|p| p.y)), high: Point::new(most(|p| p.x), most(|p| p.y)) }
 }
 
-/// Whether a group of some length lies inside the bounds of another.
+/// Whether a group lies inside the bounds of another.
 fn inside(group: &[Run], other: &[Run]) -> bool {
     let (mine, others) = (bounds(group), bounds(other));
-    let within = others.low.x < mine.low.x && others.low.y < mine.low.y;
-    mine.low != mine.high && within && mine.high.x < others.high.x && mine.high.y < others.high.y
+    let above_low = others.low.x < mine.low.x && others.low.y < mine.low.y;
+    above_low && mine.high.x < others.high.x && mine.high.y < others.high.y
 }

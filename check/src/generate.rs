@@ -7,7 +7,7 @@ use crate::random::Random;
 /// What is special about a star.
 #[derive(Clone, Copy, Debug, PartialEq, Eq)]
 pub enum Kind {
-    /// One run, of any shape, also a single point.
+    /// One run, of any shape.
     Alone,
     /// Two runs between the same points, perhaps from other ends.
     Equal,
@@ -255,10 +255,7 @@ pub(crate) fn on_lattice(random: &mut Random, kind: Kind, runs: usize, span: i32
     if straight {
         if random.once_in(2) { q.x = p.x } else { q.y = p.y }
     }
-    if kind == Kind::Alone && random.once_in(4) {
-        q = p;
-    }
-    if p == q && kind != Kind::Alone {
+    if p == q {
         q = if p.x < span { Point::new(p.x + 1, p.y) } else { Point::new(p.x - 1, p.y) };
     }
     let mut star = Star { boxes: vec![Area::of(p, q)], span };
@@ -475,11 +472,17 @@ pub(crate) fn spread_boxes(random: &mut Random, runs: usize) -> Vec<Area> {
     boxes
 }
 
-/// Runs with no design, on so few lines that some jobs are stars or leases; or no run.
+/// Runs with no design, each between two points, on so few lines that some jobs are stars or leases; or no run.
 pub fn any(random: &mut Random) -> Job {
     let count = if random.once_in(4) { random.below(MOST_RUNS + 1) } else { random.below(5) };
     let reach = *random.pick(&[2, 4, 8, 100, FAR]);
     let point = |random: &mut Random| Point::new(random.from(-reach, reach), random.from(-reach, reach));
-    let points: Vec<(Point, Point)> = (0..count).map(|_| (point(random), point(random))).collect();
+    let run = |random: &mut Random| loop {
+        let (first, second) = (point(random), point(random));
+        if first != second {
+            return (first, second);
+        }
+    };
+    let points: Vec<(Point, Point)> = (0..count).map(|_| run(random)).collect();
     numbered(random, &points)
 }

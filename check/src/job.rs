@@ -69,7 +69,7 @@ impl Run {
     }
 }
 
-/// An upright rectangle with its boundary: a run's box. It may be a segment or a point.
+/// An upright rectangle with its boundary: a run's box, which may be a segment, or the common part of two, which may be a point.
 #[derive(Clone, Copy, Debug, PartialEq, Eq)]
 pub struct Area {
     /// The corner of least x and least y.

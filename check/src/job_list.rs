@@ -13,7 +13,7 @@ pub fn book_length(runs: usize) -> usize {
 }
 
 /// The job book of a job number and a list, for a buffer of so many bytes; or the first refusal that applies: 3, 9, then run by
-/// run 7 and 8, then 2.
+/// run 7, 8 and 17, then 2.
 pub fn book_of(number: u32, list: &[i32], room: usize) -> Result<Vec<u8>, Refusal> {
     let refuse = |number: i32, place: usize| Err(Refusal { number, place });
     if list.len() % RUN_NUMBERS != 0 {
@@ -30,6 +30,9 @@ pub fn book_of(number: u32, list: &[i32], room: usize) -> Result<Vec<u8>, Refusa
         }
         if run[1..].iter().any(|coordinate| !(-FAR..=FAR).contains(coordinate)) {
             return refuse(8, index);
+        }
+        if run[1..3] == run[3..5] {
+            return refuse(17, index);
         }
         before = run[0];
     }

@@ -23,8 +23,6 @@ pub enum Layout {
     Crossed,
     /// Groups of two runs.
     Pairs,
-    /// Runs that are points, among others and in their boxes.
-    Points,
     /// Runs that meet nobody: every run is a group.
     Singles,
     /// Groups of all kinds, anywhere.
@@ -32,14 +30,13 @@ pub enum Layout {
 }
 
 /// All of them.
-pub const LAYOUTS: [Layout; 9] = [
+pub const LAYOUTS: [Layout; 8] = [
     Layout::Apart,
     Layout::Tiles,
     Layout::Corners,
     Layout::Within,
     Layout::Crossed,
     Layout::Pairs,
-    Layout::Points,
     Layout::Singles,
     Layout::Woven,
 ];
@@ -126,17 +123,6 @@ impl Lease {
         }
     }
 
-    /// A run that is a point: a corner of a run's box, in a run's box, or anywhere.
-    fn add_point(&mut self, random: &mut Random, span: i32) {
-        let area = *random.pick(&self.boxes);
-        let p = match random.below(3) {
-            0 => corner_of(random, &area),
-            1 => point_in(random, &area),
-            _ => self.anywhere(random, span),
-        };
-        self.add(Area::of(p, p));
-    }
-
     /// Adds a group, or a run or two, as the layout has them; whatever does not fit is left out.
     fn extend(&mut self, random: &mut Random, layout: Layout, span: i32) {
         let (first, room) = (self.boxes.is_empty(), self.most - self.boxes.len());
@@ -144,7 +130,6 @@ impl Lease {
             Layout::Apart | Layout::Tiles => unreachable!("these are laid at once"),
             Layout::Crossed => self.add_segment(random, span),
             Layout::Pairs => self.add_pair(random, span),
-            Layout::Points if !first && random.once_in(2) => self.add_point(random, span),
             Layout::Singles => {
                 let p = self.anywhere(random, 2 * span);
                 let area = around(random, p, 3);
@@ -164,7 +149,7 @@ impl Lease {
                 let (to, from) = (corner_of(random, &area), corner_of(random, &boxes[0]));
                 self.add_star(&boxes, Point::new(to.x - from.x, to.y - from.y));
             }
-            Layout::Corners | Layout::Points | Layout::Woven => {
+            Layout::Corners | Layout::Woven => {
                 let boxes = some_star(random, room, span);
                 let by = self.anywhere(random, span);
                 self.add_star(&boxes, by);
@@ -298,9 +283,9 @@ fn spread(random: &mut Random, sizes: &[usize]) -> Job {
     spread_numbered(random, &boxes)
 }
 
-/// A star or a lease in which one thing was changed, so that some group of it often is no star: a run doubled, made a point, moved
-/// by one decimetre, replaced by one between points of others, or added: a point, one between points of others, or one that
-/// joins two groups.
+/// A star or a lease in which one thing was changed, so that some group of it often is no star: a run doubled, moved by one
+/// decimetre, replaced by one between points of others, or added between such points, so that it may join two groups. Where the
+/// change leaves a run with one point, the job is without it.
 pub fn near(random: &mut Random) -> Job {
     let (kind, layout) = (*random.pick(&KINDS), *random.pick(&LAYOUTS));
     let job = match random.below(4) {
@@ -312,18 +297,17 @@ pub fn near(random: &mut Random) -> Job {
     let mut points: Vec<(Point, Point)> = job.runs.iter().map(|run| (run.first, run.second)).collect();
     let at = random.below(points.len());
     let other = random.below(points.len());
-    match random.below(6) {
+    match random.below(4) {
         0 => points.push(points[at]),
-        1 => points[at].1 = points[at].0,
-        2 => points.push((points[at].0, points[at].0)),
-        3 => {
+        1 => {
             let moved = points[at].0;
             let by = |random: &mut Random, value: i32| (value + random.from(-1, 1)).clamp(-FAR, FAR);
             points[at].0 = Point::new(by(random, moved.x), by(random, moved.y));
         }
-        4 => points.push((points[at].0, points[other].1)),
+        2 => points.push((points[at].0, points[other].1)),
         _ => points[at] = (points[at].1, points[other].0),
     }
+    points.retain(|(first, second)| first != second);
     points.truncate(MOST_RUNS);
     numbered(random, &points)
 }

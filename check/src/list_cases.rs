@@ -71,7 +71,7 @@ fn job_number(random: &mut Random) -> u32 {
 
 /// Lists at each limit from both sides. What is due was worked out by hand.
 pub static TABLE: LazyLock<Vec<ListCase>> =
-    LazyLock::new(|| [numbers_in_table(), coordinates(), lengths(), buffers(), two_at_once()].concat());
+    LazyLock::new(|| [numbers_in_table(), coordinates(), points(), lengths(), buffers(), two_at_once()].concat());
 
 /// A row of the table.
 fn row(label: &str, list: Vec<i32>, room: usize, made: Made) -> ListCase {
@@ -147,6 +147,42 @@ fn coordinates() -> Vec<ListCase> {
     rows
 }
 
+/// The list with both points of a run replaced.
+fn between(list: Vec<i32>, run: usize, first: (i32, i32), second: (i32, i32)) -> Vec<i32> {
+    let points = [first.0, first.1, second.0, second.1];
+    (1..).zip(points).fold(list, |list, (at, value)| with(list, run, at, value))
+}
+
+/// Two points that coincide, and such that differ in as little as they can.
+fn points() -> Vec<ListCase> {
+    let right = [
+        ("points-x-one-more", (5, 5), (6, 5)),
+        ("points-x-one-less", (5, 5), (4, 5)),
+        ("points-y-one-more", (5, 5), (5, 6)),
+        ("points-y-one-less", (5, 5), (5, 4)),
+        ("points-exchanged", (5, 6), (6, 5)),
+        ("points-opposite", (-5, -5), (5, 5)),
+        ("points-a-high-half-apart", (5, 5), (65_541, 5)),
+        ("points-highest-but-one", (FAR, FAR), (FAR, FAR - 1)),
+    ];
+    let wrong = [
+        ("points-coincide", (5, 5), 17),
+        ("points-coincide-zero", (0, 0), 17),
+        ("points-coincide-highest", (FAR, FAR), 17),
+        ("points-coincide-lowest", (-FAR, -FAR), 17),
+        ("points-coincide-above", (FAR + 1, 5), 8),
+        ("points-coincide-below", (5, -FAR - 1), 8),
+        ("points-coincide-least", (i32::MIN, i32::MIN), 8),
+    ];
+    let right = right.map(|(label, first, second)| row(label, between(runs(3), 1, first, second), 65, Made::Whole));
+    let wrong = wrong.map(|(label, at, number)| row(label, between(runs(3), 1, at, at), 65, refused(number, 1)));
+    let of_run = |count: i32, run: usize, label: &str| {
+        row(label, between(runs(count), run, (-7, 300), (-7, 300)), 616, refused(17, run))
+    };
+    let others = [of_run(1, 0, "points-of-one-run"), of_run(3, 0, "points-of-first"), of_run(32, 31, "points-of-last")];
+    right.into_iter().chain(wrong).chain(others).collect()
+}
+
 fn lengths() -> Vec<ListCase> {
     let mut rows: Vec<ListCase> = [0, 1, 2, 31, 32]
         .map(|count| row(&format!("runs-{count}"), runs(count), book_length(count as usize), Made::Whole))
@@ -167,6 +203,7 @@ fn buffers() -> Vec<ListCase> {
 
 fn two_at_once() -> Vec<ListCase> {
     let many = |first: i32| with(runs(33), 0, 0, first);
+    let nowhere = |list: Vec<i32>, run: usize| between(list, run, (9, 9), (9, 9));
     vec![
         row("two-alone", with_numbers(&[1]), 26, Made::Whole),
         row("seven-alone", with_numbers(&[0]), 27, refused(7, 0)),
@@ -186,6 +223,15 @@ fn two_at_once() -> Vec<ListCase> {
         row("eight-then-seven", with(with(runs(3), 0, 1, FAR + 1), 1, 0, 0), 65, refused(8, 0)),
         row("seven-then-seven", with_numbers(&[3, 2, 1]), 65, refused(7, 1)),
         row("eight-then-eight", with(with(runs(3), 1, 4, i32::MAX), 2, 1, i32::MIN), 65, refused(8, 1)),
+        row("two-and-seventeen", nowhere(runs(3), 2), 64, refused(17, 2)),
+        row("three-and-seventeen", nowhere(runs(2), 0)[..9].to_vec(), 65, refused(3, 9)),
+        row("nine-and-seventeen", nowhere(runs(33), 0), 700, refused(9, 32)),
+        row("seven-and-seventeen", nowhere(with(runs(3), 1, 0, 1), 1), 65, refused(7, 1)),
+        row("seven-then-seventeen", nowhere(with(runs(3), 0, 0, 0), 1), 65, refused(7, 0)),
+        row("seventeen-then-seven", nowhere(with(runs(3), 1, 0, 0), 0), 65, refused(17, 0)),
+        row("eight-then-seventeen", nowhere(with(runs(3), 0, 1, FAR + 1), 1), 65, refused(8, 0)),
+        row("seventeen-then-eight", nowhere(with(runs(3), 1, 1, FAR + 1), 0), 65, refused(17, 0)),
+        row("seventeen-then-seventeen", nowhere(nowhere(runs(3), 2), 1), 65, refused(17, 1)),
     ]
 }
 
@@ -220,10 +266,11 @@ const EVERY_COUNT: &str = "every-count";
 pub const FAR_TOO_MANY: &str = "far-too-many";
 
 /// What each other way to make a list is called, the way, and the buffer.
-const WAYS: [(&str, Make, Buffer); 34] = [
+const WAYS: [(&str, Make, Buffer); 47] = [
     ("full", full, Buffer::Enough),
     ("at-the-ends", at_the_ends, Buffer::Enough),
     ("star", star, Buffer::Enough),
+    ("straight", straight, Buffer::Enough),
     ("short", any_runs, Buffer::Short),
     ("low-number", |random| wrong_number(random, low), Buffer::Enough),
     ("high-number", |random| wrong_number(random, high), Buffer::Enough),
@@ -232,28 +279,40 @@ const WAYS: [(&str, Make, Buffer); 34] = [
     ("number-overtaken", number_overtaken, Buffer::Enough),
     ("coordinate", coordinate, Buffer::Enough),
     ("coordinates", coordinates_of_run, Buffer::Enough),
+    ("points", nowhere, Buffer::Enough),
+    ("points-outside", nowhere_outside, Buffer::Enough),
     ("ragged", ragged, Buffer::Enough),
     ("too-many", |random| too_many(random, 33, 34), Buffer::Enough),
     (FAR_TOO_MANY, |random| too_many(random, 35, 200), Buffer::Enough),
     ("short-and-number", |random| wrong_number(random, any_wrong), Buffer::Short),
     ("short-and-number-again", number_again, Buffer::Short),
     ("short-and-coordinate", coordinate, Buffer::Short),
+    ("short-and-points", nowhere, Buffer::Short),
     ("short-and-too-many", |random| too_many(random, 33, 34), Buffer::Short),
     ("short-and-ragged", ragged, Buffer::Short),
-    ("number-and-coordinate", number_and_coordinate, Buffer::Enough),
+    ("number-and-coordinate", |random| number_and(random, spoil_coordinate), Buffer::Enough),
+    ("number-and-points", |random| number_and(random, spoil_points), Buffer::Enough),
     ("number-then-coordinate", |random| two_runs(random, spoil_number, spoil_coordinate, 7), Buffer::Enough),
     ("coordinate-then-number", |random| two_runs(random, spoil_coordinate, spoil_number, 8), Buffer::Enough),
     ("number-then-number", |random| two_runs(random, spoil_number, spoil_number, 7), Buffer::Enough),
     ("coordinate-then-coordinate", |random| two_runs(random, spoil_coordinate, spoil_coordinate, 8), Buffer::Enough),
+    ("number-then-points", |random| two_runs(random, spoil_number, spoil_points, 7), Buffer::Enough),
+    ("coordinate-then-points", |random| two_runs(random, spoil_coordinate, spoil_points, 8), Buffer::Enough),
+    ("points-then-number", |random| two_runs(random, spoil_points, spoil_number, 17), Buffer::Enough),
+    ("points-then-coordinate", |random| two_runs(random, spoil_points, spoil_coordinate, 17), Buffer::Enough),
+    ("points-then-points", |random| two_runs(random, spoil_points, spoil_points, 17), Buffer::Enough),
     ("short-and-two-runs", |random| two_runs(random, spoil_coordinate, spoil_number, 8), Buffer::Short),
     ("ragged-and-number", |random| ragged_and(random, spoil_number), Buffer::Enough),
     ("ragged-and-coordinate", |random| ragged_and(random, spoil_coordinate), Buffer::Enough),
+    ("ragged-and-points", |random| ragged_and(random, spoil_points), Buffer::Enough),
     ("ragged-and-too-many", ragged_and_too_many, Buffer::Enough),
     ("too-many-and-number", |random| too_many_and(random, spoil_number), Buffer::Enough),
     ("too-many-and-coordinate", |random| too_many_and(random, spoil_coordinate), Buffer::Enough),
+    ("too-many-and-points", |random| too_many_and(random, spoil_points), Buffer::Enough),
     ("extremes", extremes, Buffer::Enough),
     ("near-limits", near_limits, Buffer::Enough),
     ("near-limits-short", near_limits, Buffer::Short),
+    ("near-points", near_points, Buffer::Enough),
     ("noise", noise, Buffer::Enough),
 ];
 
@@ -269,7 +328,8 @@ fn some_runs(random: &mut Random, least: usize) -> usize {
     *random.pick(&[few, few, any, any, MOST_RUNS])
 }
 
-/// A well-formed list of so many runs, or more of them than a job may have: numbers that rise, coordinates in range.
+/// A well-formed list of so many runs, or more of them than a job may have: numbers that rise, coordinates in range, points that
+/// differ.
 fn whole(random: &mut Random, runs: usize) -> Vec<i32> {
     let numbers = match random.below(4) {
         0 => random.rising(runs, 1, TOP_NUMBER),
@@ -277,8 +337,19 @@ fn whole(random: &mut Random, runs: usize) -> Vec<i32> {
         _ => (1..=runs as i32).collect(),
     };
     let reach = *random.pick(&[2, 300, FAR, FAR]);
-    let mut coordinate = || random.from(-reach, reach);
-    numbers.iter().flat_map(|&number| [number, coordinate(), coordinate(), coordinate(), coordinate()]).collect()
+    let mut list: Vec<i32> = numbers.iter().flat_map(|&number| [number, 0, 0, 0, 0]).collect();
+    redraw(&mut list, || random.from(-reach, reach));
+    list
+}
+
+/// Draws the coordinates of every run anew, until its points differ.
+fn redraw(list: &mut [i32], mut coordinate: impl FnMut() -> i32) {
+    for run in list.chunks_exact_mut(RUN_NUMBERS) {
+        run[1..].fill_with(&mut coordinate);
+        while run[1..3] == run[3..] {
+            run[1..].fill_with(&mut coordinate);
+        }
+    }
 }
 
 fn any_runs(random: &mut Random) -> (Vec<i32>, Made) {
@@ -294,8 +365,17 @@ fn full(random: &mut Random) -> (Vec<i32>, Made) {
 fn at_the_ends(random: &mut Random) -> (Vec<i32>, Made) {
     let runs = some_runs(random, 1);
     let mut list = whole(random, runs);
-    for (_, value) in list.iter_mut().enumerate().filter(|(at, _)| at % RUN_NUMBERS != 0) {
-        *value = *random.pick(&[FAR, -FAR, FAR - 1, 1 - FAR, 0, -1]);
+    redraw(&mut list, || *random.pick(&[FAR, -FAR, FAR - 1, 1 - FAR, 0, -1]));
+    (list, Made::Whole)
+}
+
+/// Every run along a row or a column: its points share their y or their x, and not both.
+fn straight(random: &mut Random) -> (Vec<i32>, Made) {
+    let runs = some_runs(random, 1);
+    let mut list = whole(random, runs);
+    for run in list.chunks_exact_mut(RUN_NUMBERS) {
+        let same = if run[1] == run[3] || run[2] != run[4] && random.once_in(2) { 1 } else { 2 };
+        run[same + 2] = run[same];
     }
     (list, Made::Whole)
 }
@@ -391,6 +471,35 @@ fn coordinates_of_run(random: &mut Random) -> (Vec<i32>, Made) {
     (list, refused(8, run))
 }
 
+/// Puts both points of a run on one of them.
+fn spoil_points(random: &mut Random, list: &mut [i32], run: usize) {
+    let points = &mut list[RUN_NUMBERS * run + 1..RUN_NUMBERS * (run + 1)];
+    let from = 2 * random.below(2);
+    points.copy_within(from..from + 2, 2 - from);
+}
+
+/// A run whose points coincide.
+fn nowhere(random: &mut Random) -> (Vec<i32>, Made) {
+    let runs = some_runs(random, 1);
+    let mut list = whole(random, runs);
+    let any = random.below(runs);
+    let run = *random.pick(&[0, any, any, runs - 1]);
+    spoil_points(random, &mut list, run);
+    (list, refused(17, run))
+}
+
+/// A run whose points coincide outside their range.
+fn nowhere_outside(random: &mut Random) -> (Vec<i32>, Made) {
+    let runs = some_runs(random, 1);
+    let mut list = whole(random, runs);
+    let run = random.below(runs);
+    spoil_coordinate(random, &mut list, run);
+    let points = &mut list[RUN_NUMBERS * run + 1..RUN_NUMBERS * (run + 1)];
+    let from = if points[..2].iter().all(|value| (-FAR..=FAR).contains(value)) { 2 } else { 0 };
+    points.copy_within(from..from + 2, 2 - from);
+    (list, refused(8, run))
+}
+
 /// Leaves out 1 to 4 of the last numbers, or adds as many.
 fn ragged_end(random: &mut Random, list: &mut Vec<i32>) -> Made {
     let count = 1 + random.below(4);
@@ -420,12 +529,13 @@ fn too_many(random: &mut Random, least: usize, most: usize) -> (Vec<i32>, Made) 
 /// Makes a run of a list wrong.
 type Spoil = fn(&mut Random, &mut [i32], usize);
 
-fn number_and_coordinate(random: &mut Random) -> (Vec<i32>, Made) {
+/// A run whose number is wrong, and something else besides.
+fn number_and(random: &mut Random, spoil: Spoil) -> (Vec<i32>, Made) {
     let runs = some_runs(random, 1);
     let mut list = whole(random, runs);
     let run = random.below(runs);
     spoil_number(random, &mut list, run);
-    spoil_coordinate(random, &mut list, run);
+    spoil(random, &mut list, run);
     (list, refused(7, run))
 }
 
@@ -485,6 +595,19 @@ fn near_limits(random: &mut Random) -> (Vec<i32>, Made) {
     }
     if random.once_in(20) {
         ragged_end(random, &mut list);
+    }
+    (list, Made::Anyhow)
+}
+
+/// A list in which the second points of some runs are the first ones, or beside them.
+fn near_points(random: &mut Random) -> (Vec<i32>, Made) {
+    let runs = some_runs(random, 1);
+    let mut list = whole(random, runs);
+    for run in list.chunks_exact_mut(RUN_NUMBERS) {
+        if random.once_in(4) {
+            let [dx, dy] = [0; 2].map(|_| *random.pick(&[0, 0, 0, 1, -1]));
+            (run[3], run[4]) = ((run[1] + dx).clamp(-FAR, FAR), (run[2] + dy).clamp(-FAR, FAR));
+        }
     }
     (list, Made::Anyhow)
 }

@@ -5,13 +5,13 @@ use crate::book::job_bytes;
 use crate::book_cases::{self, planned, touch};
 use crate::book_damage;
 use crate::choice::{Choice, OF_BOOK, OTHER_JOB, UNTRUE};
-use crate::compare::{SPECIAL, special};
+use crate::compare::{SPECIAL, nowhere, special};
 use crate::damage;
 use crate::foreign::{self, STYLES, Style};
 use crate::generate::{self, CROSSINGS, KINDS};
 use crate::graph::{Graph, Survey};
 use crate::job::Job;
-use crate::leases::{self, LAYOUTS, Layout};
+use crate::leases::{self, LAYOUTS};
 use crate::plan_book::PlanBook;
 use crate::random::Random;
 use crate::refusal::Refusal;
@@ -109,8 +109,7 @@ pub fn some_job(random: &mut Random) -> Job {
         1 if random.once_in(2) => generate::full_star(random),
         1 => leases::full_lease(random),
         2..=4 => generate::star(random, kind),
-        5..=7 => leases::lease(random, layout),
-        8 => leases::lease(random, Layout::Points),
+        5..=8 => leases::lease(random, layout),
         9..=12 => generate::small_star(random, kind),
         13..=16 => leases::small_lease(random, layout),
         _ => generate::crossed_star(random, crossing),
@@ -138,16 +137,20 @@ fn refused(number: i32, at: usize) -> Option<Choice> {
     Some(Err(Refusal { number, place: at + 1 }))
 }
 
+/// Two books of a special job. Those of a job of which some run goes nowhere are true but for that: a route of one corner is its run's.
 fn of_special(random: &mut Random, words: &str, pairing: &[(Style, bool); 2]) -> PairCase {
     let survey = Survey::of(special(words));
     let label = format!("special: {words}");
+    let nowhere = nowhere(&survey.job);
     if survey.graph.stars().is_none() {
-        return PairCase { label, ..no_star_of(random, survey) };
+        let case = no_star_of(random, survey);
+        return PairCase { label, made: nowhere.map(Err).or(case.made), ..case };
     }
     let books = pairing.map(|(style, _)| true_book(random, &survey, style));
-    let made = match pairing.iter().position(|&(_, older)| older) {
-        Some(at) => refused(UNTRUE, at),
-        None => Some(less(&books)),
+    let made = match (nowhere, pairing.iter().position(|&(_, older)| older)) {
+        (Some(refusal), _) => Some(Err(refusal)),
+        (None, Some(at)) => refused(UNTRUE, at),
+        (None, None) => Some(less(&books)),
     };
     let older = [pairing[0].1, pairing[1].1];
     let [first, second] = books;

@@ -18,7 +18,7 @@ pub struct Plan {
     pub centres: Vec<usize>,
     /// Each run's meets figure.
     pub meets: Vec<usize>,
-    /// Each route's corners: the first point, each vertex at which it turns, the second point; one corner where they coincide.
+    /// Each route's corners: the first point, each vertex at which it turns, the second point.
     pub corners: Vec<Vec<Point>>,
     /// The length of the routes' union.
     pub trench: i64,

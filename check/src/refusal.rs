@@ -12,7 +12,7 @@ pub const PLAN_ROOM: usize = 40_960;
 /// A refusal's number and place.
 #[derive(Clone, Copy, Debug, PartialEq, Eq)]
 pub struct Refusal {
-    /// 1 to 9, or 11 to 16.
+    /// 1 to 9, or 11 to 17.
     pub number: i32,
     /// The offset of the record at fault, or what documents 01 and 02 say instead.
     pub place: usize,
@@ -42,6 +42,7 @@ pub fn words(number: i32) -> &'static str {
         14 => "a count that differs from what it counts, or a route with no corner",
         15 => "a plan of another job, or of other runs",
         16 => "a plan of the older kinds, or one that is not true for the job",
+        17 => "a run whose two points coincide",
         _ => "no refusal",
     }
 }
@@ -71,8 +72,9 @@ pub(crate) fn point(body: &[u8], at: usize) -> Point {
     Point::new(word(body, at) as i32, word(body, at + 4) as i32)
 }
 
-/// The job of a job book, or the first of the refusals 3 to 9 that applies: records front to back, and within a record 4,
-/// 3, 5, 9, 7, 8, 6. The end record is judged before a byte after it. A job may have no runs (02, C-11).
+/// The job of a job book, or the first of the refusals 3 to 9 and 17 that applies: records front to back, and within a record 4,
+/// 3, 5, 9, 7, 8, 17, 6. The end record is judged before a byte after it. A job may have no runs (02, C-11), and each of its runs goes
+/// somewhere (02, C-18).
 pub fn read(bytes: &[u8]) -> Result<Job, Refusal> {
     let mut number = None;
     let mut runs: Vec<Run> = Vec::new();
@@ -100,6 +102,9 @@ pub fn read(bytes: &[u8]) -> Result<Job, Refusal> {
                 if !in_range(run.first) || !in_range(run.second) {
                     return refuse(8);
                 }
+                if run.first == run.second {
+                    return refuse(17);
+                }
                 runs.push(run);
             }
             _ => {
@@ -117,7 +122,7 @@ pub fn read(bytes: &[u8]) -> Result<Job, Refusal> {
     }
 }
 
-/// What is due for a job book: the job, well formed and every group a star, or its refusal among 3 to 9 and 11.
+/// What is due for a job book: the job, well formed and every group a star, or its refusal among 3 to 9, 17 and 11.
 pub fn verdict(bytes: &[u8]) -> Result<Job, Refusal> {
     surveyed(bytes).map(|survey| survey.job)
 }

@@ -93,16 +93,18 @@ impl Report {
     /// books should have nothing here.
     pub fn untried(&self) -> Vec<String> {
         let (numbers, what, runs): (&[i32], _, _) = match self.subject {
-            Subject::Jobs => (&[3, 4, 5, 6, 7, 8, 9, 11], "a job", "runs"),
+            Subject::Jobs => (&[3, 4, 5, 6, 7, 8, 9, 11, 17], "a job", "runs"),
             Subject::Plans => (&[8, 12, 13, 14], "a plan", "routes"),
-            Subject::Lists => (&[2, 3, 7, 8, 9], "a list", "runs"),
+            Subject::Lists => (&[2, 3, 7, 8, 9, 17], "a list", "runs"),
             Subject::Pairs => (&[], "a chosen book", "routes"),
         };
         let refusals = numbers.iter().filter(|number| !self.refused.contains_key(number));
         let counts = (0..=MOST_RUNS).filter(|count| !self.accepted.contains_key(count));
         let groups = (0..=MOST_RUNS).filter(|n| self.subject == Subject::Jobs && !self.groups.contains_key(n));
         let (kinds, of_few): (Vec<String>, _) = match self.subject {
-            Subject::Jobs => (facts::ALL.map(str::to_string).to_vec(), "jobs with"),
+            Subject::Jobs => {
+                (facts::ALL.into_iter().chain([facts::NOWHERE]).map(str::to_string).collect(), "jobs with")
+            }
             Subject::Plans => (Vec::new(), "plans"),
             Subject::Lists => (list_cases::labels().map(str::to_string).collect(), "lists"),
             Subject::Pairs => (pair_cases::labels(), "pairs"),

@@ -31,7 +31,7 @@ impl fmt::Display for Wrong {
 }
 
 /// The job of a text, or everything that is wrong with it, line by line. An accepted text is a well-formed job: none of the
-/// refusals 3 to 9 applies to its job book.
+/// refusals 3 to 9 and 17 applies to its job book.
 pub fn parse(text: &str) -> Result<Typed, Vec<Wrong>> {
     let mut number = None;
     let mut typed = Typed { job: Job { number: 0, runs: Vec::new() }, lines: Vec::new() };
@@ -82,7 +82,11 @@ fn add_run(typed: &mut Typed, line: usize, words: &[&str]) -> Result<(), String>
     if typed.job.runs.len() == MOST_RUNS {
         return Err(format!("a 33rd run; a job has at most {MOST_RUNS} (refusal 9)"));
     }
-    typed.job.runs.push(Run { number, first: point(first)?, second: point(second)? });
+    let run = Run { number, first: point(first)?, second: point(second)? };
+    if run.first == run.second {
+        return Err(format!("the two points of run {number} coincide (refusal 17)"));
+    }
+    typed.job.runs.push(run);
     typed.lines.push(line);
     Ok(())
 }

@@ -302,12 +302,12 @@ fn misled(random: &mut Random, survey: &Survey, at: usize, route: &[Vertex], way
         _ => around_cell(random, grid, route)?,
     };
     let turns_back = path.windows(3).any(|three| three[0] == three[2]);
-    (path != route && !turns_back).then_some(path)
+    (!turns_back).then_some(path)
 }
 
 /// The path without its first vertex, or with one more before it.
 fn moved_first(random: &mut Random, grid: &Grid, path: &[Vertex]) -> Option<Path> {
-    if path.len() > 1 && random.once_in(2) {
+    if random.once_in(2) {
         return Some(path[1..].to_vec());
     }
     let before = *random.pick(&grid.around(path[0]));
@@ -316,8 +316,8 @@ fn moved_first(random: &mut Random, grid: &Grid, path: &[Vertex]) -> Option<Path
 
 /// The path with one of its edges gone around, over the line beside it.
 fn around_edge(random: &mut Random, grid: &Grid, path: &[Vertex]) -> Option<Path> {
-    let at = random.below((path.len() - 1).max(1));
-    let (u, v) = (path[at], *path.get(at + 1)?);
+    let at = random.below(path.len() - 1);
+    let (u, v) = (path[at], path[at + 1]);
     let side = random.below(2);
     let beside = |w: Vertex| {
         let [left, right, below, above] = grid.around(w);

@@ -1,6 +1,7 @@
 /* A plain C writer of job books, and the places of a job's refusals: what stands in for those of the archive while it is not
  * built. */
 #include <stdbool.h>
+#include <string.h>
 
 #include "trench.h"
 
@@ -36,6 +37,8 @@ static struct refusal judge(const int32_t *runs, size_t runs_len, size_t out_len
         for (int k = 1; k < TRENCH_RUN; k++)
             if (outside(run[k]))
                 return (struct refusal){ TRENCH_COORDINATE, i };
+        if (run[1] == run[3] && run[2] == run[4])
+            return (struct refusal){ TRENCH_COINCIDENT, i };
         before = run[0];
     }
     if (out_len < HEAD_LENGTH + RUN_LENGTH * count + END_LENGTH)
@@ -94,7 +97,7 @@ static bool is_right(const uint8_t *run, uint32_t before)
     for (int k = 0; k < 4; k++)
         if (outside(word_at(run + 3 + 4 * k)))
             return false;
-    return half_at(run + 1) > before && half_at(run + 1) <= TOP_NUMBER;
+    return half_at(run + 1) > before && half_at(run + 1) <= TOP_NUMBER && memcmp(run + 3, run + 11, 8) != 0;
 }
 
 /* With 2 and 11, and for a job that is planned, the place is 0: whether the groups are stars need not be asked. */

@@ -135,21 +135,37 @@ fn crossings_are_pits() {
     assert_eq!(choose(&job, &cross(5), &cross(4)), refused(16, 2));
 }
 
-/// A blank job, and runs that are points.
+/// A blank job, and a straight run, of which no book with one corner is true.
 #[test]
-fn blank_jobs_and_points() {
+fn blank_jobs_and_straight_runs() {
     let blank = job_bytes(&Job { number: 7, runs: Vec::new() });
     let plan = book([0, 0, 0, 0], &[]);
-    let one = book([0, 0, 1, 1], &[(0, 1, "5,5")]);
-    let point = job("5,5 5,5");
+    let one = book([1, 0, 2, 1], &[(0, 1, "5,5 5,6")]);
+    let straight = job("5,5 5,6");
     assert_eq!(choose(&blank, &plan.bytes(), &plan.bytes()), Ok(1));
     assert_eq!(choose(&blank, &plan.clone().as_older().bytes(), &plan.bytes()), refused(16, 1));
     assert_eq!(choose(&blank, &one.bytes(), &plan.bytes()), refused(15, 1));
     assert_eq!(choose(&blank, &PlanBook { last: 1, ..plan.clone() }.bytes(), &plan.bytes()), refused(16, 1));
-    assert_eq!(choose(&point, &one.bytes(), &one.bytes()), Ok(1));
-    assert_eq!(choose(&point, &one.bytes(), &plan.bytes()), refused(15, 2));
-    assert_eq!(choose(&point, &one.bytes(), &book([0, 0, 1, 1], &[(0, 1, "5,6")]).bytes()), refused(16, 2));
-    assert_eq!(choose(&point, &one.bytes(), &book([1, 0, 2, 1], &[(0, 1, "5,5 5,6")]).bytes()), refused(16, 2));
+    assert_eq!(choose(&straight, &one.bytes(), &one.bytes()), Ok(1));
+    assert_eq!(choose(&straight, &one.bytes(), &plan.bytes()), refused(15, 2));
+    assert_eq!(choose(&straight, &one.bytes(), &book([1, 0, 2, 1], &[(0, 1, "5,6 5,5")]).bytes()), refused(16, 2));
+    for corner in ["5,5", "5,6"] {
+        assert_eq!(choose(&straight, &book([0, 1, 1, 1], &[(0, 1, corner)]).bytes(), &one.bytes()), refused(16, 1));
+    }
+}
+
+/// A run that goes nowhere is a refusal of the job (02, C-18): it comes before any of a book, also where both books are what was once
+/// stored for the job.
+#[test]
+fn runs_that_go_nowhere() {
+    let stored = book([0, 0, 1, 1], &[(0, 1, "5,5")]).bytes();
+    assert!(PlanBook::read(&stored).is_ok(), "a route of one corner is read");
+    assert_eq!(choose(&job("5,5 5,5"), &stored, &stored), refused(17, 5));
+    assert_eq!(choose(&job("5,5 5,5"), &[], &stored), refused(17, 5), "before 12 of the first book");
+    assert_eq!(choose(&job("0,0 4,3; 1,1 1,1"), &over_left().bytes(), &[]), refused(17, 24));
+    assert_eq!(choose(&job("0,0 3,4; 0,0 3,4; 0,0 3,4; 1,1 1,1"), &[], &[]), refused(17, 62), "before 11");
+    assert_eq!(choose(&job("2000000,5 2000000,5"), &stored, &stored), refused(8, 5), "after 8");
+    assert_eq!(outcome(&refused(17, 5)), "job 17");
 }
 
 #[test]
@@ -253,7 +269,7 @@ fn a_jobs_8_is_not_a_books() {
     assert_eq!(outcome(&refused(8, 5)), "job 8");
     assert_eq!((outcome(&refused(8, 1)), outcome(&refused(8, 2))), ("first 8".to_string(), "second 8".to_string()));
     assert_eq!((outcome(&refused(12, 2)), outcome(&Ok(2))), ("second 12".to_string(), "stake from 2".to_string()));
-    assert_eq!(outcomes().len(), 2 + 8 + 6 + 6);
+    assert_eq!(outcomes().len(), 2 + 9 + 6 + 6);
 }
 
 /// Plans of every style are true, and none digs less than the planned one.

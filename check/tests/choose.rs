@@ -1,7 +1,10 @@
 //! The comparison of choosers passes a right one, and notices each wrong one.
 
+mod common;
+
 use std::sync::LazyLock;
 
+use common::{EIGHT, SEVEN, read_by};
 use trench_check::choice::outcomes;
 use trench_check::choose::{Chooser, try_pair, try_pairs};
 use trench_check::graph::Survey;
@@ -33,6 +36,9 @@ enum Slip {
     PlaceFromZero,
     PlaceAlwaysFirst,
     JobsPlaceLost,
+    NowhereForgotten,
+    NowhereLast,
+    NowhereOfFirst,
     EqualIsSecond,
     MoreTrench,
     MoreSaved,
@@ -83,6 +89,8 @@ impl Plain {
     fn job(&self, job: &[u8]) -> Result<Survey, Refusal> {
         match (self.0, refusal::surveyed(job)) {
             (Slip::JobsPlaceLost, Err(refused)) => Err(Refusal { place: 0, ..refused }),
+            (Slip::NowhereOfFirst, Err(refused)) if refused.number == 17 => Err(Refusal { place: 1, ..refused }),
+            (Slip::NowhereForgotten | Slip::NowhereLast, Err(Refusal { number: 17, .. })) => going_anywhere(job),
             (_, answer) => answer,
         }
     }
@@ -103,6 +111,9 @@ impl Plain {
             Slip::LongerNotJudged => (self.book(&survey, first, 1)?, read(second)),
             _ => (self.book(&survey, first, 1)?, self.book(&survey, second, 2)?),
         };
+        if self.0 == Slip::NowhereLast {
+            refusal::read(job)?;
+        }
         let takes_second = match self.0 {
             Slip::EqualIsSecond => two.0 <= one.0,
             Slip::MoreTrench => two.0 > one.0,
@@ -114,6 +125,12 @@ impl Plain {
     }
 }
 
+/// The survey of a job of which nobody asks whether a run goes nowhere.
+fn going_anywhere(job: &[u8]) -> Result<Survey, Refusal> {
+    let survey = Survey::of(read_by(job, &[SEVEN, EIGHT])?);
+    if survey.graph.stars().is_some() { Ok(survey) } else { Err(Refusal { number: 11, place: 0 }) }
+}
+
 impl Chooser for Plain {
     fn choose(&mut self, job: &[u8], first: &[u8], second: &[u8]) -> Answered {
         let answer = Plain::choose(self, job, first, second);
@@ -121,7 +138,8 @@ impl Chooser for Plain {
     }
 
     fn place(&mut self, job: &[u8], first: &[u8], second: &[u8]) -> Answered {
-        let of_book = |refused: &Refusal| refused.number >= 12 || refused.place < 3 && refused.number == 8;
+        let of_book =
+            |refused: &Refusal| (12..17).contains(&refused.number) || refused.place < 3 && refused.number == 8;
         let place = match (self.0, Plain::choose(self, job, first, second)) {
             (Slip::PlaceOfChosen, Ok(book)) => book,
             (_, Ok(_)) => 0,
@@ -223,9 +241,22 @@ fn a_wrong_order_is_noticed() {
     assert_noticed(Slip::SecondBookFirst, "the answer is -12 and should be -16");
     assert_noticed(Slip::BooksBeforeJob, "the answer is -12 and should be -11");
     assert_noticed(Slip::BooksBeforeJob, "the answer is -12 and should be -3");
+    assert_noticed(Slip::BooksBeforeJob, "the answer is -12 and should be -17");
     assert_noticed(Slip::SecondNotJudged, "the answer is 1 and should be -16");
     assert_noticed(Slip::LongerNotJudged, "the answer is 1 and should be -16");
     assert_noticed(Slip::LongerNotJudged, "the answer is 2 and should be -16");
+}
+
+/// A run that goes nowhere is the job's fault: it is told before any of a book, with its own place, also where both books are what was
+/// stored for this job.
+#[test]
+fn runs_that_go_nowhere_are_noticed() {
+    assert_noticed(Slip::NowhereForgotten, "the answer is 1 and should be -17");
+    assert_noticed(Slip::NowhereForgotten, "the answer is -16 and should be -17");
+    assert_noticed(Slip::NowhereForgotten, "the answer is -11 and should be -17");
+    assert_noticed(Slip::NowhereLast, "the answer is -16 and should be -17");
+    assert_noticed(Slip::NowhereLast, "the answer is -12 and should be -17");
+    assert_noticed(Slip::NowhereOfFirst, "the place is 1 and should be 5");
 }
 
 #[test]

@@ -1,9 +1,13 @@
 //! The comparison passes a right planner, and notices each wrong one.
 
+mod common;
+
 use std::collections::BTreeSet;
 
+use common::{EIGHT, SEVEN, SEVENTEEN, Test, read_by};
 use trench_check::choose::Chooser;
-use trench_check::compare::{Called, Caller, SIZES, case, try_cases, try_listing};
+use trench_check::compare::{Called, Caller, Case, SIZES, case, try_case, try_cases, try_listing};
+use trench_check::damage::{NOWHERE, damaged};
 use trench_check::enumerate::Path;
 use trench_check::facts;
 use trench_check::graph::{Graph, Survey};
@@ -13,6 +17,7 @@ use trench_check::listing;
 use trench_check::pits;
 use trench_check::plan_book::PlanBook;
 use trench_check::planner;
+use trench_check::random::Random;
 use trench_check::read_back::Answered;
 use trench_check::refusal::{self, PLAN_ROOM};
 use trench_check::report::{Report, Subject};
@@ -93,15 +98,20 @@ fn write(book: &PlanBook, out: &mut [u8]) -> i32 {
     bytes.len() as i32
 }
 
-const JOBS: u64 = 450;
+const JOBS: u64 = 510;
 
 fn report(planner: impl FnMut(&[u8], &mut [u8]) -> i32) -> Report {
     try_cases(&mut Plain(planner), 11, 0, JOBS, 1)
 }
 
+/// One of the jobs shows a fault of this planner in these words.
 fn assert_noticed(planner: impl FnMut(&[u8], &mut [u8]) -> i32, words: &str) {
-    let faults = report(planner).faults;
-    assert!(faults.iter().any(|fault| fault.contains(words)), "`{words}` is in none of {} faults", faults.len());
+    assert_one_shows(&mut Plain(planner), words);
+}
+
+fn assert_one_shows(caller: &mut dyn Caller, words: &str) {
+    let mut faults = (0..JOBS).flat_map(|n| try_cases(caller, 11, n, n + 1, 1).faults);
+    assert!(faults.any(|fault| fault.contains(words)), "`{words}` is in no fault");
 }
 
 /// The right answer with the plan changed.
@@ -181,6 +191,58 @@ fn a_wrong_order_of_refusals_is_noticed() {
     assert_noticed(seven_for_eight, "the answer is -7 and should be -8");
 }
 
+/// A planner that asks this of each run, in this order; then whether all groups are stars; and last this of all runs.
+fn asking(of_run: &'static [Test], last: &'static [Test]) -> impl Fn(&[u8], &mut [u8]) -> i32 {
+    move |bytes, out| {
+        if out.len() < PLAN_ROOM {
+            return -2;
+        }
+        let job = match read_by(bytes, of_run) {
+            Err(refused) => return -refused.number,
+            Ok(job) => job,
+        };
+        let Some(plan) = planner::plan(&job) else { return -11 };
+        match read_by(bytes, last) {
+            Err(refused) => -refused.number,
+            Ok(_) => write(&PlanBook::of(&job, &plan), out),
+        }
+    }
+}
+
+/// What is found with books of which some run goes nowhere.
+fn faults_of_nowhere(planner: impl Fn(&[u8], &mut [u8]) -> i32) -> Vec<String> {
+    let mut report = Report::of(Subject::Jobs);
+    for (n, way) in (0..400).zip(NOWHERE.cycle()) {
+        let made = damaged(&mut Random::nth(16, n), way);
+        let case = Case { bytes: made.bytes, made_wrong: Some(made.refusal), what: made.what.to_string() };
+        try_case(&mut Plain(&planner), &case, &mut Random::nth(17, n), &mut report);
+    }
+    report.faults
+}
+
+/// 17 is told behind 8 in the same record and before all that comes later, of points that coincide in both coordinates.
+#[test]
+fn runs_that_go_nowhere_are_noticed() {
+    const SAME_X: Test = (17, |run, _| run.first.x == run.second.x);
+    const SAME_Y: Test = (17, |run, _| run.first.y == run.second.y);
+    const SAME_SUM: Test = (17, |run, _| run.first.x + run.first.y == run.second.x + run.second.y);
+    const TEN: Test = (10, SEVENTEEN.1);
+    assert_eq!(report(asking(&[SEVEN, EIGHT, SEVENTEEN], &[])).faults, Vec::<String>::new());
+    assert_noticed(asking(&[SEVEN, EIGHT], &[]), "the answer is 40 and should be -17");
+    assert_noticed(asking(&[SEVEN, EIGHT, TEN], &[]), "the answer is -10 and should be -17");
+    assert_noticed(asking(&[SEVEN, SEVENTEEN, EIGHT], &[]), "the answer is -17 and should be -8");
+    assert_noticed(asking(&[SEVENTEEN, SEVEN, EIGHT], &[]), "the answer is -17 and should be -7");
+    let faults = faults_of_nowhere(asking(&[SEVEN, EIGHT], &[SEVENTEEN]));
+    for other in [4, 5, 6, 7, 8, 11] {
+        let told = format!("the answer is -{other} and should be -17");
+        assert!(faults.iter().any(|fault| fault.ends_with(&told)), "`{told}` is in none of {} faults", faults.len());
+    }
+    assert_noticed(asking(&[SEVEN, EIGHT, SAME_X], &[]), "special: 0,0 1,0; 0,0 0,1 ");
+    assert_noticed(asking(&[SEVEN, EIGHT, SAME_X], &[]), "the answer is -17, but a plan is due");
+    assert_noticed(asking(&[SEVEN, EIGHT, SAME_Y], &[]), "special: 0,0 3,0; 2,0 5,0 ");
+    assert_noticed(asking(&[SEVEN, EIGHT, SAME_SUM], &[]), "special: 5,6 6,5; 5,5 5,6; 5,5 6,5; 6,5 6,6 ");
+}
+
 /// A planner that finds the groups by another test of meeting: it refuses where one of these is no star, and else tells the meets,
 /// groups and centres that it found.
 fn grouped_by(meet: fn(&Run, &Run) -> bool) -> impl Fn(&[u8], &mut [u8]) -> i32 {
@@ -216,11 +278,6 @@ fn wrong_groups_are_noticed() {
         common.is_some_and(|common| common.low.x < common.high.x && common.low.y < common.high.y)
     };
     assert_noticed(grouped_by(area_alone), "the head's number of groups is 2 and should be 1");
-    let point_meets = |a: &Run, b: &Run| {
-        let inside = |p: &Run, q: &Run| p.first == p.second && q.area().holds(p.first);
-        meets_rightly(a, b) || inside(a, b) || inside(b, a)
-    };
-    assert_noticed(grouped_by(point_meets), "special: 0,0 6,6; 3,3 3,3");
     assert_noticed(grouped_by(|_, _| false), "should be 1");
     let one_star_alone = |job: &[u8], out: &mut [u8]| match refusal::verdict(job) {
         Ok(job) if Survey::of(job.clone()).graph.groups().len() > 1 && out.len() >= PLAN_ROOM => -11,
@@ -301,12 +358,6 @@ fn wrong_centres_and_counts_of_groups_are_noticed() {
     assert_noticed(counted(|groups, _| groups.len().min(1)), told);
     assert_noticed(counted(|groups, _| groups.len().max(1)), told);
     assert_noticed(counted(|groups, _| groups.iter().filter(|group| group.len() > 1).count()), told);
-    assert_noticed(
-        counted(|_, book| {
-            book.routes.iter().filter(|route| route.corners.len() > 1 && route.centre == route.run).count()
-        }),
-        told,
-    );
     assert_noticed(counted(|_, book| book.routes.first().map_or(0, |route| route.centre.into())), told);
 }
 
@@ -347,7 +398,7 @@ fn wrong_kinds_are_noticed() {
     };
     assert_noticed(mixed(true), "refused 12 at 19");
     assert_noticed(mixed(false), "refused 12 at 19");
-    assert_noticed(mixed(true), "job 22: special: 0,0 2,2; 2,2 4,4; 0,0 2,2; 2,2 4,4; 4,4 4,4");
+    assert_noticed(mixed(true), "job 25: special: 0,0 2,2; 2,2 4,4; 0,0 2,2; 2,2 4,4; 4,4 4,5");
 }
 
 /// The last group laid with one bend a run, and all figures measured on that.
@@ -360,9 +411,7 @@ fn last_group_bent(job: &[u8], out: &mut [u8]) -> i32 {
             let Run { first, second, .. } = survey.job.runs[i];
             let mut corners = vec![first, Point::new(second.x, first.y), second];
             corners.dedup();
-            if corners.len() == 3 || corners[0] != corners[corners.len() - 1] {
-                book.routes[i].corners = corners;
-            }
+            book.routes[i].corners = corners;
         }
         let path = |corners: &[Point]| survey.grid.path(corners).expect("a path of the grid");
         let drawn: Vec<Path> = book.routes.iter().map(|route| path(&route.corners)).collect();
@@ -405,10 +454,11 @@ fn figures_by_group_are_noticed() {
 #[test]
 fn what_was_not_tried_is_told() {
     let untried = Report::of(Subject::Jobs).untried();
-    assert_eq!(untried.len(), 8 + 33 + 33 + facts::ALL.len());
+    assert_eq!(untried.len(), 9 + 33 + 33 + facts::ALL.len() + 1);
+    assert_eq!(untried.last().map(String::as_str), Some("enough jobs with a run that goes nowhere"));
     assert_eq!(
-        [&untried[8][..], &untried[41], &untried[74]],
-        ["a job of 0 runs", "a job of 0 groups", "enough jobs with several groups"]
+        [&untried[8][..], &untried[9], &untried[42], &untried[75]],
+        ["refusal 17", "a job of 0 runs", "a job of 0 groups", "enough jobs with several groups"]
     );
     assert_eq!(try_cases(&mut Plain(|_: &[u8], _: &mut [u8]| -2), 11, 0, 8_000, 1).untried(), Vec::<String>::new());
 }
@@ -431,8 +481,7 @@ fn assert_noticed_beside(
     book: impl FnMut(u32, &[i32]) -> Vec<u8>,
     words: &str,
 ) {
-    let faults = try_cases(&mut Beside { planner: |_, _| -2, place, book }, 11, 0, JOBS, 1).faults;
-    assert!(faults.iter().any(|fault| fault.contains(words)), "`{words}` is in none of {} faults", faults.len());
+    assert_one_shows(&mut Beside { planner: |_, _| -2, place, book }, words);
 }
 
 #[test]
@@ -461,6 +510,12 @@ fn wrong_places_are_noticed() {
         _ => right_place(job, room),
     };
     assert_noticed_beside(record_for_after_end, right_book, "byte after the end");
+    let index_for_nowhere = |job: &[u8], room: usize| match refusal::verdict(job) {
+        Err(refused) if refused.number == 17 && room >= PLAN_ROOM => (refused.place - 5) / 19,
+        _ => right_place(job, room),
+    };
+    assert_noticed_beside(index_for_nowhere, right_book, "the place is 0 and should be 5");
+    assert_noticed_beside(index_for_nowhere, right_book, "the place is 1 and should be 24");
 }
 
 #[test]
@@ -550,7 +605,7 @@ impl Chooser for WithChooser {
 
 #[test]
 fn a_plan_that_is_not_handed_back_is_noticed() {
-    let report = try_cases(&mut WithChooser(1, 0), 7, 0, 36, 1);
+    let report = try_cases(&mut WithChooser(1, 0), 7, 0, 42, 1);
     assert_eq!(report.faults, Vec::<String>::new());
     assert_eq!(report.handed_back, report.accepted.values().sum::<usize>());
     for (chooser, told) in [
@@ -559,7 +614,7 @@ fn a_plan_that_is_not_handed_back_is_noticed() {
         (WithChooser(1, 1), "the plan as both books: the place is 1 and should be 0"),
     ] {
         let mut chooser = chooser;
-        let report = try_cases(&mut chooser, 7, 0, 36, 1);
+        let report = try_cases(&mut chooser, 7, 0, 42, 1);
         assert_eq!(report.faults.len(), report.handed_back);
         assert!(report.faults.iter().all(|fault| fault.ends_with(told)), "{:?}", report.faults);
     }

@@ -16,22 +16,18 @@ fn told(words: &str) -> String {
 
 #[test]
 fn groups_drawn_by_hand() {
-    assert_eq!(told("5,5 5,5"), "groups 1 centres 0", "a point is a group");
+    assert_eq!(told("5,5 5,6"), "groups 1 centres 0", "a run alone is a group");
     assert_eq!(told("0,0 3,4; 0,0 3,4"), "groups 1 centres 0 0", "of two the one of lower number");
     assert_eq!(told("0,0 3,4; 0,0 3,4; 0,0 3,4"), "groups 1 centres none", "row 4 of the examples");
     assert_eq!(told("0,0 3,3; 3,3 5,5"), "groups 2 centres 0 1", "row 5: a common corner joins nobody");
     assert_eq!(told("0,2 4,2; 2,0 2,4"), "groups 2 centres 0 1", "row 11: nor does a crossing");
-    assert_eq!(
-        told("3,3 3,3; 0,0 6,6; 3,3 3,3; 0,0 6,6"),
-        "groups 3 centres 0 1 2 1",
-        "points in a box, and equal points"
-    );
+    assert_eq!(told("6,6 6,7; 0,0 6,6; 6,6 7,6; 0,0 6,6"), "groups 3 centres 0 1 2 1", "straight runs from a corner");
     assert_eq!(told("1,1 2,2; 0,0 9,9; 4,4 5,5; 20,0 21,1"), "groups 2 centres 1 1 1 3", "the centre stands second");
     assert_eq!(told("0,0 2,0; 5,0 7,0; 1,0 6,0"), "groups 1 centres 2 2 2", "the last run joins the first two");
     assert_eq!(told("0,0 2,0; 1,0 3,0; 5,0 7,0; 6,0 9,0"), "groups 2 centres 0 0 2 2", "two pairs");
     assert_eq!(told("0,0 2,0; 1,0 3,0; 5,0 7,0; 6,0 9,0; 2,0 6,0"), "groups 1 centres none", "joined by one more run");
-    assert_eq!(told("0,0 2,0; 1,0 4,0; 3,0 6,0; 9,9 9,9"), "groups 2 centres 1 1 1 3", "a chain of three is a star");
-    assert_eq!(told("0,0 2,0; 1,0 4,0; 3,0 6,0; 5,0 8,0; 9,9 9,9"), "groups 2 centres none", "a chain of four is none");
+    assert_eq!(told("0,0 2,0; 1,0 4,0; 3,0 6,0; 9,9 9,8"), "groups 2 centres 1 1 1 3", "a chain of three is a star");
+    assert_eq!(told("0,0 2,0; 1,0 4,0; 3,0 6,0; 5,0 8,0; 9,9 9,8"), "groups 2 centres none", "a chain of four is none");
 }
 
 #[test]

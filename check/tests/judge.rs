@@ -56,9 +56,9 @@ fn right_plans_pass() {
     }
 }
 
-/// Groups 1 (runs 1, 2), 3 and 4 (runs 4, 5); group 3 is a point, and the other two touch in 6,6.
+/// Groups 1 (runs 1, 2), 3 and 4 (runs 4, 5); group 3 is a straight run, and the other two touch in 6,6.
 fn lease() -> (Job, PlanBook) {
-    let job = job("0,0 6,6; 0,2 4,2; 9,1 9,1; 6,6 9,9; 6,8 9,8");
+    let job = job("0,0 6,6; 0,2 4,2; 9,1 9,2; 6,6 9,9; 6,8 9,8");
     let book = book(&job);
     (job, book)
 }
@@ -72,7 +72,7 @@ fn verdict_on_lease(spoil: impl FnOnce(&mut PlanBook)) -> String {
 #[test]
 fn groups_and_centres_are_judged() {
     let (_, right) = lease();
-    assert_eq!((right.last, right.trench, right.saved), (3, 18, 7));
+    assert_eq!((right.last, right.trench, right.saved), (3, 19, 7));
     assert_eq!(right.routes.iter().map(|route| route.centre).collect::<Vec<_>>(), [1, 1, 3, 4, 4]);
     assert_eq!(verdict_on_lease(|_| {}), "");
     for groups in [0, 1, 2, 4, 5] {
@@ -331,6 +331,9 @@ fn broken_books_are_caught() {
     let more = [&whole[..], &[0]].concat();
     assert_eq!(judge(&job, &more), ["refused 12 at 121"]);
     assert_says(&judge(&job[..10], &whole).join("\n"), "no plan is due: the job is refused 3 at 5");
+    let nowhere = [&job[..35], &job[27..35], &job[43..]].concat();
+    let told = "no plan is due: the job is refused 17 at 24 (a run whose two points coincide)";
+    assert_eq!(judge(&nowhere, &whole), [told]);
     let older = book.as_older().bytes();
     assert_eq!(judge(&job, &[&whole[..19], &older[19..]].concat()), ["refused 12 at 19"], "an older route");
     assert_eq!(judge(&job, &[&older[..62], &whole[64..]].concat()), ["refused 12 at 62"], "a newer route");

@@ -1,4 +1,4 @@
-//! Job books from lists of runs: every refusal of request C-15 and every limit from both sides, and two opinions on many lists.
+//! Job books from lists of runs: every refusal of requests C-15 and C-18 and every limit from both sides, and two opinions on many lists.
 
 use std::collections::{BTreeMap, BTreeSet};
 
@@ -30,6 +30,30 @@ fn readings_of_request_15() {
     assert_eq!(book_of(7, &right[..4], room), refused(3, 4), "no multiple of five");
     assert_eq!(book_of(7, &[-1, 0, 0, 0, 0], room), refused(7, 0), "a number below 0");
     assert_eq!(book_of(7, &[1, 0, 0, 1, 1, 2, 0, 0, 0, 1_000_001], 46), refused(8, 1), "the second run's last number");
+}
+
+#[test]
+fn readings_of_request_18() {
+    let run = |number: i32, at: i32, to: i32| [number, at, at, to, to];
+    let list = |runs: &[[i32; 5]]| runs.concat();
+    let [right, nowhere] = [run(1, 0, 1), run(2, 5, 5)];
+    assert_eq!(book_of(7, &nowhere, 27), refused(17, 0), "one run");
+    assert_eq!(book_of(7, &list(&[right, nowhere, run(3, 0, 1)]), 65), refused(17, 1), "the run's index");
+    assert_eq!(book_of(7, &list(&[right, nowhere, run(3, 6, 6)]), 65), refused(17, 1), "the first of two");
+    assert_eq!(book_of(7, &list(&[right, nowhere, run(1, 0, 1)]), 65), refused(17, 1), "before 7 of a later run");
+    assert_eq!(
+        book_of(7, &list(&[right, nowhere, run(3, 0, 2_000_000)]), 65),
+        refused(17, 1),
+        "before 8 of a later run"
+    );
+    assert_eq!(book_of(7, &list(&[run(0, 0, 1), nowhere]), 46), refused(7, 0), "after 7 of an earlier run");
+    assert_eq!(book_of(7, &list(&[right, run(1, 5, 5)]), 46), refused(7, 1), "after 7 of the same run");
+    assert_eq!(book_of(7, &run(1, 2_000_000, 2_000_000), 27), refused(8, 0), "after 8 of the same run");
+    assert_eq!(book_of(7, &nowhere, 0), refused(17, 0), "before 2");
+    for (first, second) in [([5, 5], [5, 6]), ([5, 5], [6, 5]), ([5, 6], [6, 5]), ([-5, 5], [5, 5])] {
+        let list = [&[1], &first[..], &second].concat();
+        assert!(book_of(7, &list, 27).is_ok(), "{list:?} goes somewhere");
+    }
 }
 
 /// The rows say what is due, and that was worked out by hand.
@@ -71,6 +95,12 @@ fn the_table_has_both_sides_of_each_limit() {
             has(&format!("{value} in field {field}"), number, &|case| case.list.get(5 + field) == Some(&value));
         }
     }
+    for (dx, dy, number) in [(0, 0, 17), (1, 0, 0), (-1, 0, 0), (0, 1, 0), (0, -1, 0)] {
+        has(&format!("points {dx},{dy} apart"), number, &|case| {
+            let gap = |run: &[i32], at: usize| i64::from(run[at + 2]) - i64::from(run[at]);
+            case.list.get(5..10).is_some_and(|run| (gap(run, 1), gap(run, 2)) == (dx, dy))
+        });
+    }
     for (runs, number) in [(0, 0), (1, 0), (31, 0), (32, 0), (33, 9), (34, 9)] {
         has(&format!("{runs} runs"), number, &|case| case.list.len() == 5 * runs && case.room >= 8 + 19 * runs);
     }
@@ -99,8 +129,8 @@ fn lists_are_refused_as_made() {
             }
         }
     }
-    let numbers: [(&str, &[i32]); 3] =
-        [("extremes", &[3, 7]), ("near-limits", &[0, 2, 3, 7, 8]), ("noise", &[3, 7, 9])];
+    let numbers: [(&str, &[i32]); 4] =
+        [("extremes", &[3, 7]), ("near-limits", &[0, 2, 3, 7, 8]), ("near-points", &[0, 2, 17]), ("noise", &[3, 7, 9])];
     for (label, number) in numbers.iter().flat_map(|(label, numbers)| numbers.iter().map(move |&n| (*label, n))) {
         let count = found.get(&(label.to_string(), number)).copied().unwrap_or(0);
         assert!(count > 20, "{label} gives {number} only {count} times");
@@ -127,7 +157,7 @@ fn books_are_written_and_read_back() {
 
 #[test]
 fn lines_of_lists() {
-    let lines: Vec<_> = short_cases(1).take(150).collect();
+    let lines: Vec<_> = short_cases(1).take(185).collect();
     let seen: BTreeSet<&str> = lines.iter().map(|case| case.label.as_str()).collect();
     for label in labels().filter(|&label| label != FAR_TOO_MANY).chain(TABLE.iter().map(|case| case.label.as_str())) {
         assert!(seen.contains(label), "{label} is among the first lines");
@@ -169,5 +199,5 @@ fn vectors_of_the_proved_program() {
     let [lines, printed] = ["stdin", "stdout"].map(|name| std::fs::read_to_string(format!("{stored}{name}")).unwrap());
     let written: Vec<String> = lines.lines().map(|line| written(line).unwrap()).collect();
     assert_eq!(printed.lines().collect::<Vec<_>>(), written);
-    assert!(written.len() >= 150);
+    assert!(written.len() >= 185);
 }

@@ -43,6 +43,7 @@ enum Slip {
     FourteenAtCorner,
     NoCornerAccepted,
     OneCornerRefused,
+    NowhereRefused,
     RunsNotCompared,
     TotalNotCompared,
     RunNumberJudged,
@@ -294,9 +295,11 @@ fn read(slip: Slip, bytes: &[u8]) -> Result<PlanBook, Refusal> {
         return read(Slip::None, &[&[0x51][..], &[0; 18], &[0x5A, 0, 0]].concat());
     }
     let (book, places) = records(slip, bytes)?;
-    match wrong_counts(slip, &book, &places).first() {
-        Some(&place) => Err(refusal(14, place)),
-        None => Ok(book),
+    let nowhere = book.routes.iter().position(|route| route.corners.len() == 1);
+    match (wrong_counts(slip, &book, &places).first(), nowhere) {
+        (Some(&place), _) => Err(refusal(14, place)),
+        (None, Some(i)) if slip == Slip::NowhereRefused => Err(refusal(17, places[i])),
+        (None, _) => Ok(book),
     }
 }
 
@@ -516,6 +519,7 @@ fn wrong_counts_are_noticed() {
     assert_noticed(Slip::FourteenAtCorner, "wrong number of corners");
     assert_noticed(Slip::NoCornerAccepted, "route with no corner");
     assert_noticed(Slip::OneCornerRefused, "the answer is -14 and should be 1");
+    assert_noticed(Slip::NowhereRefused, "the answer is -17 and should be 1");
     assert_noticed(Slip::RunsNotCompared, "and should be -14");
     assert_noticed(Slip::TotalNotCompared, "and should be -14");
     assert_noticed(Slip::RunNumberJudged, "the answer is -7 and should be ");

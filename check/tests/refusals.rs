@@ -2,8 +2,10 @@
 
 use trench_check::book::job_bytes;
 use trench_check::damage;
-use trench_check::generate;
-use trench_check::job::Job;
+use trench_check::generate::{self, CROSSINGS, KINDS};
+use trench_check::job::{FAR, Job};
+use trench_check::leases::{self, LAYOUTS};
+use trench_check::line;
 use trench_check::random::Random;
 use trench_check::refusal::{Refusal, read, verdict};
 
@@ -25,6 +27,62 @@ fn whole_books_are_read_back() {
         let job = generate::any(&mut Random::nth(4, n));
         assert_eq!(read(&job_bytes(&job)), Ok(job));
     }
+}
+
+/// The makers of jobs make none that goes nowhere, but where that is what is to be refused.
+#[test]
+fn runs_go_somewhere() {
+    let goes = |job: &Job| job.runs.iter().all(|run| run.first != run.second);
+    for n in 0..3_000 {
+        let (random, at) = (&mut Random::nth(8, n), n as usize);
+        let (kind, layout) = (KINDS[at % KINDS.len()], LAYOUTS[at % LAYOUTS.len()]);
+        let jobs = [
+            generate::star(random, kind),
+            generate::small_star(random, kind),
+            generate::crossed_star(random, CROSSINGS[at % CROSSINGS.len()]),
+            leases::lease(random, layout),
+            leases::small_lease(random, layout),
+            leases::near(random),
+            leases::broken_lease(random),
+            generate::any(random),
+        ];
+        jobs.iter().for_each(|job| assert!(goes(job), "{}", line::show(job)));
+    }
+}
+
+#[test]
+fn readings_of_request_18() {
+    let job = |words: &str| job_bytes(&line::parse(words, 7).expect("a job line").expect("a job"));
+    let accepted = |words: &str| verdict(&job(words)).is_ok();
+    assert_eq!(verdict(&job("5,5 5,5")), refused(17, 5), "row 1 of the examples");
+    assert_eq!(verdict(&job("0,0 3,4; 1,1 1,1; 5,5 6,6")), refused(17, 24), "the second run");
+    assert_eq!(verdict(&job("0,0 3,4; 1,1 2,2; 5,5 5,5")), refused(17, 43), "the last run");
+    assert_eq!(verdict(&job("0,0 3,4; 1,1 1,1; 5,5 5,5")), refused(17, 24), "the first of two");
+    assert_eq!(verdict(&job("0,0 3,4; 0,0 3,4; 0,0 3,4; 9,9 9,9")), refused(17, 62), "17 before 11");
+    for far in [FAR, -FAR] {
+        assert_eq!(verdict(&job(&format!("{far},{far} {far},{far}"))), refused(17, 5), "at the ends of the range");
+        let outside = far + far.signum();
+        for point in [format!("{outside},5"), format!("5,{outside}")] {
+            assert_eq!(verdict(&job(&format!("{point} {point}"))), refused(8, 5), "8 before 17");
+        }
+    }
+    for words in ["5,5 5,6", "5,5 5,4", "5,5 6,5", "5,5 4,5", "5,6 6,5", "-5,-5 5,5", "5,5 65541,5", "5,5 5,65541"] {
+        assert!(accepted(words), "{words} differ");
+    }
+    let with = |at: usize, byte: u8| {
+        let mut bytes = job("5,5 5,5");
+        bytes[at] = byte;
+        verdict(&bytes)
+    };
+    assert_eq!(with(6, 0), refused(7, 5), "7 before 17");
+    assert_eq!(with(5, 0x53), refused(4, 5), "4 before 17");
+    assert_eq!(with(25, 2), refused(17, 5), "17 before the end's 6");
+    assert_eq!(with(24, 0), refused(17, 5), "17 before 4 of a later record");
+    assert_eq!(verdict(&job("5,5 5,5")[..23]), refused(3, 5), "3 before 17");
+    assert_eq!(verdict(&job("5,5 5,5")[..24]), refused(17, 5), "17 before what is missing later");
+    assert_eq!(verdict(&job("5,5 5,5")[5..]), refused(5, 0), "5 before 17");
+    let many = vec!["0,0 1,1"; 32].join("; ");
+    assert_eq!(verdict(&job(&format!("{many}; 5,5 5,5"))), refused(9, 613), "9 before 17");
 }
 
 #[test]

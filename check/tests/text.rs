@@ -85,6 +85,11 @@ fn errors_name_their_lines() {
         errors("job 7\n1 0,x 1,1\n2 0,0 1\n"),
         "line 2: `0,x` is no point; two whole numbers with a comma between are wanted, as in `40,-30`\nline 3: `1` is no point; two whole numbers with a comma between are wanted, as in `40,-30`"
     );
+    assert_eq!(errors("job 7\n1 0,0 1,1\n2 5,5 5,5\n"), "line 3: the two points of run 2 coincide (refusal 17)");
+    assert_eq!(
+        errors("job 7\n12 0,-1 -0,-1\n13 0,0 1,1\n0 2,2 2,2\n20 2000000,2 2000000,2\n"),
+        "line 2: the two points of run 12 coincide (refusal 17)\nline 4: run number 0 is not from 1 to 9999 (refusal 7)\nline 5: coordinate 2000000 is not from -1000000 to 1000000 (refusal 8)"
+    );
     let many: String = (1..=33).map(|n| format!("{n} 0,0 1,1\n")).collect();
     assert_eq!(errors(&format!("job 7\n{many}")), "line 34: a 33rd run; a job has at most 32 (refusal 9)");
 }
@@ -105,7 +110,7 @@ fn which_group_is_no_star() {
     let why = |text: &str| why_no_star(&parse(text).expect("a right text"));
     let chain = "3 0,0 2,0\n4 1,0 4,0\n6 3,0 6,0\n7 5,0 8,0\n";
     let told = "the group of runs 3, 4, 6, 7 is no star: with run 4 (line 4) as the centre: run 4 (line 4) does not meet run 7 (line 6); run 6 (line 5) meets run 7 (line 6)";
-    assert_eq!(why(&format!("job 7\n1 0,9 5,9\n{chain}8 0,9 5,9\n9 7,7 7,7\n")), told);
+    assert_eq!(why(&format!("job 7\n1 0,9 5,9\n{chain}8 0,9 5,9\n9 7,7 7,8\n")), told);
     let twice = why(&format!("job 7\n1 0,9 5,9\n{chain}8 0,9 5,9\n9 0,9 4,9\n"));
     let first =
         "the group of runs 1, 8, 9 is no star: with run 1 (line 2) as the centre: run 8 (line 7) meets run 9 (line 8)";
@@ -127,12 +132,12 @@ fn the_listing_of_document_01() {
 
 #[test]
 fn the_listing_of_several_groups() {
-    let job = parse("job 9\n5 0,0 2,2\n12 2,2 4,4\n31 7,7 7,7\n40 2,2 4,4\n").expect("a right text").job;
+    let job = parse("job 9\n5 0,0 2,2\n12 2,2 4,4\n31 7,7 8,7\n40 2,2 4,4\n").expect("a right text").job;
     let text = listing::of_plan(&PlanBook::of(&job, &planner::plan(&job).expect("stars")));
     let lines: Vec<&str> = text.lines().map(|line| line.split(':').next().unwrap_or("")).collect();
-    assert_eq!(lines[0], "job 9 runs 4 groups 3 trench 8 saved 4 pits 6");
+    assert_eq!(lines[0], "job 9 runs 4 groups 3 trench 9 saved 4 pits 7");
     assert_eq!(lines[1..3], ["route 5 meets 0 centre 5 corners 3", "route 12 meets 1 centre 12 corners 3"]);
-    assert_eq!(lines[3..], ["route 31 meets 0 centre 31 corners 1", "route 40 meets 1 centre 12 corners 3"]);
+    assert_eq!(lines[3..], ["route 31 meets 0 centre 31 corners 2", "route 40 meets 1 centre 12 corners 3"]);
 }
 
 #[test]

@@ -1,6 +1,7 @@
-//! The three ways to a least plan agree, on stars and on leases, and give the surveyed examples of document 01 as request C-16
-//! leaves them.
+//! The three ways to a least plan agree, on stars and on leases, and give the surveyed examples of document 01 as requests C-16
+//! and C-18 leave them.
 
+use trench_check::book::job_bytes;
 use trench_check::enumerate;
 use trench_check::generate::{self, CROSSINGS, KINDS};
 use trench_check::graph::Survey;
@@ -10,38 +11,39 @@ use trench_check::leases::{self, LAYOUTS};
 use trench_check::line;
 use trench_check::planner::{self, group_by_group};
 use trench_check::random::Random;
+use trench_check::refusal::verdict;
 
-/// Runs; trench and saved, or none where the outcome is 11.
-const SURVEYED: [(&str, Option<(i64, i64)>); 13] = [
-    ("5,5 5,5", Some((0, 0))),
-    ("0,0 3,4", Some((7, 0))),
-    ("0,0 3,4; 0,0 3,4", Some((7, 7))),
-    ("0,0 3,4; 0,0 3,4; 0,0 3,4", None),
-    ("0,0 3,3; 3,3 5,5", Some((10, 0))),
-    ("0,0 3,3; 3,0 6,3", Some((9, 3))),
-    ("0,0 4,3; 0,3 4,0", Some((10, 4))),
-    ("0,0 4,3; 1,1 2,2", Some((7, 2))),
-    ("0,0 6,6; 0,2 4,0; 4,6 6,2", Some((16, 8))),
-    ("0,0 4,4; 0,2 0,4; 1,0 4,0", Some((10, 3))),
-    ("0,2 4,2; 2,0 2,4", Some((8, 0))),
-    ("0,0 3,0; 2,0 5,0", Some((5, 1))),
-    ("0,0 40,30; 0,10 40,10; 20,20 20,50", Some((100, 40))),
+/// Runs; trench and saved, or the number and the place of the refusal.
+const SURVEYED: [(&str, Result<(i64, i64), (i32, usize)>); 13] = [
+    ("5,5 5,5", Err((17, 5))),
+    ("0,0 3,4", Ok((7, 0))),
+    ("0,0 3,4; 0,0 3,4", Ok((7, 7))),
+    ("0,0 3,4; 0,0 3,4; 0,0 3,4", Err((11, 0))),
+    ("0,0 3,3; 3,3 5,5", Ok((10, 0))),
+    ("0,0 3,3; 3,0 6,3", Ok((9, 3))),
+    ("0,0 4,3; 0,3 4,0", Ok((10, 4))),
+    ("0,0 4,3; 1,1 2,2", Ok((7, 2))),
+    ("0,0 6,6; 0,2 4,0; 4,6 6,2", Ok((16, 8))),
+    ("0,0 4,4; 0,2 0,4; 1,0 4,0", Ok((10, 3))),
+    ("0,2 4,2; 2,0 2,4", Ok((8, 0))),
+    ("0,0 3,0; 2,0 5,0", Ok((5, 1))),
+    ("0,0 40,30; 0,10 40,10; 20,20 20,50", Ok((100, 40))),
 ];
 
 #[test]
 fn the_surveyed_examples() {
     for (words, outcome) in SURVEYED {
         let job = line::parse(words, 7).expect("a job line").expect("a job");
-        let plan = planner::plan(&job);
-        assert_eq!(plan.map(|plan| (plan.trench, plan.saved)), outcome, "{words}");
+        let plan = verdict(&job_bytes(&job)).map(|job| planner::plan(&job).expect("stars"));
+        let figures = plan.map(|plan| (plan.trench, plan.saved));
+        assert_eq!(figures.map_err(|refused| (refused.number, refused.place)), outcome, "{words}");
     }
 }
 
 #[test]
-fn pits_of_the_listing_example_and_of_a_point() {
+fn pits_of_the_listing_example() {
     let pits = |words| planner::plan(&line::parse(words, 7).unwrap().unwrap()).unwrap().pits;
     assert_eq!(pits("0,0 40,30; 0,10 40,10; 20,20 20,50"), 6);
-    assert_eq!(pits("5,5 5,5"), 1);
 }
 
 /// Which of the two ways by enumeration could be gone for a job: they agree with the in-out graph.

@@ -7,7 +7,7 @@ use trench_check::refusal::Refusal;
 use trench_check::report::{Report, Subject};
 use trench_check::write_job::{Writer, try_lists};
 
-const LISTS: u64 = 2_000;
+const LISTS: u64 = 2_800;
 
 /// What a writer of this file does wrong.
 #[derive(Clone, Copy, Debug, PartialEq, Eq)]
@@ -36,6 +36,11 @@ enum Slip {
     LowerEndOnly,
     UpperEndOnly,
     FieldNotLookedAt(usize),
+    NowhereAccepted,
+    NowhereByX,
+    NowhereByY,
+    SeventeenBeforeEight,
+    SeventeenBeforeSeven,
     EightBeforeSeven,
     NumbersFirst,
     LastRunFirst,
@@ -44,6 +49,7 @@ enum Slip {
     TwoBeforeNine,
     TwoBeforeSeven,
     TwoBeforeEight,
+    TwoBeforeSeventeen,
     TwoAtLength,
     ExactRefused,
     OneLessAccepted,
@@ -109,6 +115,16 @@ impl Plain {
         }
     }
 
+    fn goes_nowhere(&self, run: &[i32]) -> bool {
+        let (same_x, same_y) = (run[1] == run[3], run[2] == run[4]);
+        match self.0 {
+            Slip::NowhereAccepted => false,
+            Slip::NowhereByX => same_x,
+            Slip::NowhereByY => same_y,
+            _ => same_x && same_y,
+        }
+    }
+
     /// The refusals of the runs, in the order in which they are found.
     fn wrong_runs(&self, list: &[i32]) -> Vec<Refusal> {
         let mut wrong = Vec::new();
@@ -118,10 +134,14 @@ impl Plain {
             let seven = self.number_is_wrong(run[0], before).then_some(Refusal { number: 7, place });
             let eight = (1..5).any(|field| self.coordinate_is_wrong(field, run[field]));
             let eight = eight.then_some(Refusal { number: 8, place });
-            match self.0 {
-                Slip::EightBeforeSeven => wrong.extend(eight.into_iter().chain(seven)),
-                _ => wrong.extend(seven.into_iter().chain(eight)),
-            }
+            let seventeen = self.goes_nowhere(run).then_some(Refusal { number: 17, place });
+            let in_order = match self.0 {
+                Slip::EightBeforeSeven => [eight, seven, seventeen],
+                Slip::SeventeenBeforeEight => [seven, seventeen, eight],
+                Slip::SeventeenBeforeSeven => [seventeen, seven, eight],
+                _ => [seven, eight, seventeen],
+            };
+            wrong.extend(in_order.into_iter().flatten());
             before = run[0];
         }
         match self.0 {
@@ -147,7 +167,7 @@ impl Plain {
         let two = (room < limit).then_some(Refusal { number: 2, place });
         let (three, nine): (Vec<_>, Vec<_>) = (three.into_iter().collect(), nine.into_iter().collect());
         let (two, of_runs): (Vec<_>, Vec<_>) = (two.into_iter().chain(ten).collect(), self.wrong_runs(list));
-        let (sevens, eights): (Vec<_>, Vec<_>) = of_runs.iter().partition(|refusal| refusal.number == 7);
+        let split = |number: i32| of_runs.iter().partition::<Vec<Refusal>, _>(|refusal| refusal.number < number);
         match slip {
             Slip::ThreeAfterNine => [nine, three, of_runs, two].concat(),
             Slip::ThreeLast => [nine, of_runs, two, three].concat(),
@@ -155,7 +175,10 @@ impl Plain {
             Slip::TwoBeforeThree => [two, three, nine, of_runs].concat(),
             Slip::TwoBeforeNine => [three, two, nine, of_runs].concat(),
             Slip::TwoBeforeSeven => [three, nine, two, of_runs].concat(),
-            Slip::TwoBeforeEight => [three, nine, sevens, two, eights].concat(),
+            Slip::TwoBeforeEight | Slip::TwoBeforeSeventeen => {
+                let (before, behind) = split(if slip == Slip::TwoBeforeEight { 8 } else { 17 });
+                [three, nine, before, two, behind].concat()
+            }
             _ => [three, nine, of_runs, two].concat(),
         }
     }
@@ -197,7 +220,7 @@ impl Plain {
     fn spoil(&self, refused: Refusal, out: &mut [u8]) {
         let spoils = match self.0 {
             Slip::ByteBeforeRefusal => true,
-            Slip::HeadBeforeSeven => [7, 8].contains(&refused.number) && refused.place > 0,
+            Slip::HeadBeforeSeven => [7, 8, 17].contains(&refused.number) && refused.place > 0,
             Slip::ByteBeforeTwo => refused.number == 2,
             _ => false,
         };
@@ -250,9 +273,10 @@ fn a_right_writer_passes() {
 #[test]
 fn what_was_not_tried_is_told() {
     let untried = Report::of(Subject::Lists).untried();
-    assert_eq!(untried[..6], ["refusal 2", "refusal 3", "refusal 7", "refusal 8", "refusal 9", "a list of 0 runs"]);
-    assert_eq!((untried[37].as_str(), untried[38].as_str()), ("a list of 32 runs", "enough lists every-count"));
-    assert_eq!(untried.len(), 5 + 33 + labels().count());
+    assert_eq!(untried[..3], ["refusal 2", "refusal 3", "refusal 7"]);
+    assert_eq!(untried[3..7], ["refusal 8", "refusal 9", "refusal 17", "a list of 0 runs"]);
+    assert_eq!((untried[38].as_str(), untried[39].as_str()), ("a list of 32 runs", "enough lists every-count"));
+    assert_eq!(untried.len(), 6 + 33 + labels().count());
     let few = try_lists(&mut Plain(Slip::None), 11, 0, LISTS / 4, 1).untried();
     assert!(few.iter().any(|what| what == "enough lists noise"), "a quarter is too few: {few:?}");
 }
@@ -302,6 +326,25 @@ fn wrong_coordinates_are_noticed() {
         assert_noticed(Slip::FieldNotLookedAt(field + 1), &format!("{name}-above "));
         assert_noticed(Slip::FieldNotLookedAt(field + 1), &format!("{name}-below "));
     }
+}
+
+#[test]
+fn runs_that_go_nowhere_are_noticed() {
+    assert_noticed(Slip::NowhereAccepted, "the answer is 27 and should be -17");
+    assert_noticed(Slip::NowhereAccepted, "the book is refused 17 at 5 when it is read");
+    assert_noticed(Slip::NowhereAccepted, "the place is 0 and should be 1");
+    assert_noticed(Slip::NowhereByX, "points-y-one-more ");
+    assert_noticed(Slip::NowhereByX, "the answer is -17 and should be 65");
+    assert_noticed(Slip::NowhereByY, "points-x-one-less ");
+    assert_noticed(Slip::SeventeenBeforeEight, "the answer is -17 and should be -8");
+    assert_noticed(Slip::SeventeenBeforeSeven, "the answer is -17 and should be -7");
+    assert_noticed(Slip::TwoBeforeSeventeen, "the answer is -2 and should be -17");
+    assert_noticed(Slip::NumbersFirst, "the answer is -7 and should be -17");
+    assert_noticed(Slip::NumbersFirst, "the answer is -8 and should be -17");
+    assert_noticed(Slip::LastRunFirst, "seventeen-then-seventeen ");
+    assert_noticed(Slip::RunsFromOne, "points-coincide ");
+    assert_noticed(Slip::ThreeLast, "the answer is -17 and should be -3");
+    assert_noticed(Slip::NineLast, "the answer is -17 and should be -9");
 }
 
 #[test]

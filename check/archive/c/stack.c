@@ -165,7 +165,7 @@ static size_t writing(struct call *call, size_t runs)
 {
     call->numbers = runs * TRENCH_RUN;
     for (size_t i = 0; i < call->numbers; i++)
-        call->list[i] = (int32_t)(i / TRENCH_RUN + 1);
+        call->list[i] = (int32_t)(i / TRENCH_RUN + i % TRENCH_RUN / 3 + 1); /* run n goes from n,n to n+1,n+1 */
     size_t bytes = need(written, call);
     if (runs > TRENCH_MOST_RUNS ? call->place != TRENCH_MOST_RUNS : call->answer != (int32_t)(8 + 19 * runs))
         exit(2);

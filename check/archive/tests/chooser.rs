@@ -170,6 +170,21 @@ fn samples_with_their_plans() {
     }
 }
 
+/// A stored job of which a run goes nowhere is refused before any book is looked at, with the plan that was stored for it too.
+#[test]
+fn a_stored_job_with_its_plan() {
+    let read = |name: &str| std::fs::read(common::root().join("samples").join(name)).expect("a sample");
+    for (job, plan, place) in [
+        ("refused-17-stored.job", "older/earlier-groups-3-inside.plan", 119),
+        ("example-01-point.job", "older/earlier-example-01-point.plan", 5),
+        ("example-01-point.job", "older/example-01-point.plan", 5),
+    ] {
+        let (job, plan) = (read(job), read(plan));
+        assert_eq!(answered(&job, &plan, &plan), (-17, place));
+        assert_eq!(answered(&job, &plan[..plan.len() - 1], &[]), (-17, place), "the plan cut short");
+    }
+}
+
 /// The contractor's plans of job 7, beside ours, give what `samples/README.md` says.
 #[test]
 fn contractors() {

@@ -192,8 +192,11 @@ static int write_jobs(void)
     wrong[5] = 2, wrong[9] = -1000001;
     if (write_job(7, wrong, 10, book, sizeof book) != -TRENCH_COORDINATE || job_place(7, wrong, 10, book, sizeof book) != 1)
         return 45;
+    memcpy(wrong + 8, wrong + 6, 2 * sizeof *wrong);
+    if (write_job(7, wrong, 10, book, sizeof book) != -TRENCH_COINCIDENT || job_place(7, wrong, 10, book, sizeof book) != 1)
+        return 51;
     for (int32_t i = 0; i < 33; i++)
-        many[TRENCH_RUN * i] = i + 1;
+        many[TRENCH_RUN * i] = many[TRENCH_RUN * i + 3] = i + 1;
     if (write_job(7, many, 165, book, sizeof book) != -TRENCH_TOO_MANY_RUNS || job_place(7, many, 165, book, sizeof book) != 32)
         return 46;
     if (book[0] != 0x77 || book[TRENCH_LONGEST_JOB - 1] != 0x77)
@@ -217,7 +220,14 @@ static int ask_places(void)
     if (plan_place(wrong, sizeof wrong, sizeof out) != sizeof job)
         return 62;
     wrong[6] = 0;
-    return plan_place(wrong, sizeof wrong, sizeof out) == 5 ? 0 : 63;
+    if (plan_place(wrong, sizeof wrong, sizeof out) != 5)
+        return 63;
+    memcpy(wrong, job, sizeof job);
+    memset(wrong + 16, 0, 8); /* the run goes from 0,0 to 0,0 */
+    if (plan(wrong, sizeof job, out, sizeof out) != -TRENCH_COINCIDENT || plan_place(wrong, sizeof job, sizeof out) != 5)
+        return 64;
+    wrong[20] = 1; /* and now to 0,1 */
+    return plan(wrong, sizeof job, out, sizeof out) == 22 + 9 + 2 * 9 ? 0 : 65;
 }
 
 int main(void)
@@ -240,7 +250,7 @@ int main(void)
         return 6;
     if (TRENCH_NO_STAR != 11 || TRENCH_NOT_WHOLE != 12 || TRENCH_NO_TURN != 13 || TRENCH_MISCOUNTED != 14)
         return 7;
-    if (TRENCH_OTHER_JOB != 15 || TRENCH_UNTRUE != 16)
+    if (TRENCH_OTHER_JOB != 15 || TRENCH_UNTRUE != 16 || TRENCH_COINCIDENT != 17)
         return 9;
     if (TRENCH_MOST_RUNS != 32 || TRENCH_MOST_CORNERS != 127 || TRENCH_STACK < 65536)
         return 8;

@@ -423,7 +423,7 @@ fn leases_are_drawn() {
 /// A drawing told in the simplest case, so that the test above cannot be as blind as the program.
 #[test]
 fn three_groups_element_by_element() {
-    let job = line::parse("0,0 2,2; 2,2 4,4; 7,7 7,7; 2,2 4,4", 9).expect("a job line").expect("a job");
+    let job = line::parse("0,0 2,2; 2,2 4,4; 7,7 8,7; 2,2 4,4", 9).expect("a job line").expect("a job");
     let document = drawn(map(), &["-"], &job_bytes(&job));
     for words in [
         "<polyline class=\"centre g0\"",
@@ -580,11 +580,17 @@ fn clicked_runs_are_refused() {
         let points: Vec<String> = coordinates.iter().map(|[x, y, w, z]| format!("{x},{y} {w},{z}")).collect();
         assert_refused(&points.join(" "), 8, run);
     }
+    for (points, run) in [("5,5 5,5", 0), ("0,0 40,30 0,10 0,10 20,20 20,20", 1), ("0,0 1,1 2,2 3,3 -0,7 0,7", 2)] {
+        assert_refused(points, 17, run);
+    }
+    assert_refused("1000000,-1000000 1000000,-1000000", 17, 0);
+    assert_refused("1000001,0 1000001,0", 8, 0);
     let many = |runs: usize, points: &str| vec![points; runs].join("\t");
     for runs in [33, 34, 100, 10_001] {
         assert_refused(&many(runs, "0,0 1,1"), 9, 32);
     }
     assert_refused(&many(33, "1000001,0 1,1"), 9, 32);
+    assert_refused(&many(33, "1,1 1,1"), 9, 32);
     assert_eq!(clicked("7", &book, &many(32, "0,0 1,1"), true).0, Some(1), "32 equal runs are no star");
     assert_eq!(std::fs::read(&book).map(|bytes| bytes.len()).ok(), Some(616), "and are a job book");
 }
@@ -659,6 +665,25 @@ fn stored_samples_are_drawn_or_refused() {
     }
 }
 
+/// A stored plan with a route of one corner, told in words: the point has a pit, an end and the run's number, its group a line in the
+/// foot, and the route is a line of this one point.
+#[test]
+fn a_route_of_one_corner_is_drawn() {
+    let document = drawn(map(), &["--plan", &sample("older/earlier-groups-3-inside.plan")], &[]);
+    let all = elements(&document);
+    let count = |name: &str, class: &str, text: &str| {
+        let is_meant = |element: &&Element| element.name == name && element.text == text;
+        all.iter().filter(is_meant).filter(|element| class.is_empty() || element.has_class(class)).count()
+    };
+    let routes: Vec<&Element> = all.iter().filter(|element| element.name == "polyline").collect();
+    let route = routes.iter().find(|route| route.text == "run 7, centre of group 7").expect("the route");
+    assert_eq!((routes.len(), route.attribute("points").split(' ').count()), (7, 1), "one point of seven routes");
+    assert_eq!((count("circle", "pit", "50,40"), count("circle", "end", "50,40")), (1, 1), "a pit and an end");
+    assert_eq!((count("text", "label", "7"), count("text", "", "centre 7: 1 run")), (1, 1), "its number and its group");
+    let of_run = |text: &str| text.split(' ').skip_while(|&word| word != "run").any(|word| word == "7");
+    assert!(!all.iter().any(|element| element.has_class("trench") && of_run(&element.text)), "it needs no trench");
+}
+
 /// The path of a sample.
 fn sample(name: &str) -> String {
     root().join("samples").join(name).to_str().expect("a name").to_owned()
@@ -691,16 +716,19 @@ fn the_book_to_stake_from_is_drawn() {
             );
         }
     }
-    for (name, number, place) in
-        [("refused-03-cut.job", 3, 24), ("refused-08-coordinate.job", 8, 24), ("groups-4-no-star.job", 11, 0)]
-    {
+    for (name, number, place) in [
+        ("refused-03-cut.job", 3, 24),
+        ("refused-08-coordinate.job", 8, 24),
+        ("groups-4-no-star.job", 11, 0),
+        ("refused-17-stored.job", 17, 119),
+    ] {
         let job = sample(name);
         assert_eq!(told(&job, &ours, &more), format!("map: {job}: refused {number} at {place}: {}\n", words(number)));
     }
 }
 
 /// The stored pictures are what the stored plans draw, whichever least plans the archive finds; those of older plans are as they
-/// were drawn before there were groups.
+/// were drawn then, one with a route of one corner.
 #[test]
 fn pictures_of_the_samples() {
     let map = map();

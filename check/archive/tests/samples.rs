@@ -2,12 +2,13 @@
 
 mod common;
 
-use std::path::Path;
+use std::path::{Path, PathBuf};
 
-use common::{older_samples, planned, run, samples, text};
+use common::{older_samples, planned, root, run, samples, text};
 use trench_archive::call::{Against, GuardedReader, GuardedWriter, JobWriter, Reader, plan_place};
 use trench_check::book::job_bytes;
-use trench_check::job::{Job, Point};
+use trench_check::book_cases::count;
+use trench_check::job::{Job, Point, Run};
 use trench_check::job_list::list_of;
 use trench_check::judge::judge;
 use trench_check::listing;
@@ -31,13 +32,38 @@ fn figures(book: &PlanBook) -> (u32, u32, u16, Vec<(u16, u16)>) {
     (book.trench, book.saved, book.last, book.routes.iter().map(|route| (route.meets, route.centre)).collect())
 }
 
+/// The typed job whose run goes nowhere: row 1 of document 01's examples.
+const NOWHERE: &str = "example-01-point.txt";
+
+/// What is wrong with it.
+const WHY_NOWHERE: &str = "line 3: the two points of run 1 coincide (refusal 17)";
+
+/// The typed samples that the desk takes: all but one.
+fn right_samples() -> Vec<PathBuf> {
+    let (nowhere, right): (Vec<_>, Vec<_>) = samples("txt").into_iter().partition(|path| name(path) == NOWHERE);
+    assert_eq!(nowhere.len(), 1);
+    right
+}
+
 #[test]
 fn typed_samples_are_their_job_books() {
-    for path in samples("txt") {
+    for path in right_samples() {
         let typed = parse(&read(&path)).unwrap_or_else(|errors| panic!("{}: {}", path.display(), errors[0]));
         let book = std::fs::read(path.with_extension("job")).expect("its job book");
         assert_eq!(job_bytes(&typed.job), book, "{}", path.display());
     }
+}
+
+/// Row 1 of document 01's examples, as request C-18 leaves it: refused, as typed and as a job book.
+#[test]
+fn the_sample_that_goes_nowhere() {
+    let path = root().join("samples").join(NOWHERE);
+    let errors = parse(&read(&path)).expect_err("a run that goes nowhere");
+    assert_eq!(errors.iter().map(ToString::to_string).collect::<Vec<_>>(), [WHY_NOWHERE]);
+    let book = std::fs::read(path.with_extension("job")).expect("its job book");
+    let run = Run { number: 1, first: Point::new(5, 5), second: Point::new(5, 5) };
+    assert_eq!(book, job_bytes(&Job { number: 1, runs: vec![run] }));
+    assert_eq!((planned(&book), plan_place(&book, PLAN_ROOM)), (Err(-17), 5));
 }
 
 /// Each job book that is well formed is what the archive writes for its number and runs; there are such that are no star.
@@ -112,8 +138,11 @@ fn read_by_the_archive(bytes: &[u8]) -> Result<PlanBook, Refusal> {
     Ok(book)
 }
 
-/// The older plan books `earlier-NAME` are plans of `NAME` that were written when crossings did not count as pits.
+/// The older plan books `earlier-NAME` are plans of `NAME`, written when crossings did not count as pits or when a run could go nowhere.
 const EARLIER: &str = "earlier-";
+
+/// An older plan book, and the job book that was stored with it.
+const STORED: [&str; 2] = ["earlier-groups-3-inside.plan", "refused-17-stored.job"];
 
 /// The plan books `contractor-NAME` are plans of `job-7` by others.
 const CONTRACTORS: &str = "contractor-";
@@ -145,46 +174,82 @@ fn stored_plans_are_what_is_listed() {
     }
 }
 
-/// The job of an older plan, which was one star or blank.
+/// The job book of an older plan.
 fn job_of_older(path: &Path) -> Vec<u8> {
     let folder = path.parent().and_then(Path::parent).expect("the folder of samples");
-    let job = folder.join(name(path).trim_start_matches(EARLIER)).with_extension("job");
+    let job = match name(path) == STORED[0] {
+        true => folder.join(STORED[1]),
+        false => folder.join(name(path).trim_start_matches(EARLIER)).with_extension("job"),
+    };
     std::fs::read(&job).unwrap_or_else(|error| panic!("{}: {error}", job.display()))
 }
 
-/// The plan that an older one would be today: its head counts the groups, of which there is one, or none, and each route names the
-/// centre.
-fn as_of_today(older: &PlanBook) -> PlanBook {
-    let routes = older.routes.iter().map(|route| RouteRecord { centre: older.last, ..route.clone() }).collect();
-    PlanBook { kinds: Kinds::Newer, last: older.routes.len().min(1) as u16, routes, ..older.clone() }
+/// The plan that an older one would be in the newer kinds: its head counts the groups, of which there is one, or none, and each route
+/// names the centre.
+fn as_newer(book: &PlanBook) -> PlanBook {
+    if book.kinds == Kinds::Newer {
+        return book.clone();
+    }
+    let routes = book.routes.iter().map(|route| RouteRecord { centre: book.last, ..route.clone() }).collect();
+    PlanBook { kinds: Kinds::Newer, last: book.routes.len().min(1) as u16, routes, ..book.clone() }
 }
 
-/// The plans that were written before there were groups are read and listed as they were, byte for byte, and are right today but
-/// for their kinds; those that were written before crossings counted as pits, but for their pits besides.
+fn goes_nowhere(route: &RouteRecord) -> bool {
+    route.corners.len() == 1
+}
+
+/// A plan without its routes of one corner, each of which is a group and a pit of its own; and how many these are.
+fn without_nowhere(book: &PlanBook) -> (PlanBook, u16) {
+    let (nowhere, routes): (Vec<_>, Vec<_>) = book.routes.iter().cloned().partition(goes_nowhere);
+    let less = nowhere.len() as u16;
+    let mut rest = PlanBook { pits: book.pits - less, last: book.last - less, routes, ..book.clone() };
+    count(&mut rest);
+    (rest, less)
+}
+
+/// A job book without its runs that go nowhere.
+fn job_without_nowhere(bytes: &[u8]) -> Vec<u8> {
+    let (records, _) = bytes[5..bytes.len() - 3].as_chunks::<19>();
+    let left: Vec<&[u8; 19]> = records.iter().filter(|record| record[3..11] != record[11..]).collect();
+    let runs = left.iter().flat_map(|record| record.iter().copied());
+    bytes[..5].iter().copied().chain(runs).chain([0x5A, left.len() as u8, 0]).collect()
+}
+
+/// Plans that earlier planners wrote are read and listed as they were, byte for byte. But for what they are kept for they are right
+/// today: for their kinds; for pits without crossings; for runs that go nowhere, of which the job is refused today.
 #[test]
 fn older_plans_are_read() {
-    let mut earlier = 0;
+    let (mut older, mut uncrossed, mut nowhere) = (0, 0, [0, 0]);
     for path in older_samples("plan") {
         let bytes = std::fs::read(&path).expect("a sample");
         assert_eq!(listed(&bytes), read(&path.with_extension("lst")), "{}", path.display());
         let book = read_by_the_archive(&bytes).unwrap_or_else(|refused| panic!("{}: {refused}", path.display()));
-        assert_eq!((Ok(&book), book.kinds), (PlanBook::read(&bytes).as_ref(), Kinds::Older), "{}", path.display());
+        assert_eq!(Ok(&book), PlanBook::read(&bytes).as_ref(), "{}", path.display());
         assert_eq!(book.bytes(), bytes, "{}", path.display());
-        let faults = judge(&job_of_older(&path), &as_of_today(&book).bytes());
-        let drawn: Vec<&[Point]> = book.routes.iter().map(|route| &route.corners[..]).collect();
+        let (job, (rest, less)) = (job_of_older(&path), without_nowhere(&as_newer(&book)));
+        let drawn: Vec<&[Point]> = rest.routes.iter().map(|route| &route.corners[..]).collect();
         let pits = pits::of_corners(&drawn);
-        if name(&path).starts_with(EARLIER) {
-            earlier += 1;
-            assert_eq!(usize::from(book.pits), pits.corners.len(), "{}", path.display());
-            let told = format!("pits is {} and should be {}", book.pits, pits.count());
-            assert_eq!(faults, [told], "{}", path.display());
-        } else {
-            assert_eq!(faults, Vec::<String>::new(), "{}", path.display());
+        let due = match usize::from(rest.pits) == pits.count() {
+            true => Vec::new(),
+            false => vec![format!("pits is {} and should be {}", pits.corners.len(), pits.count())],
+        };
+        assert_eq!(judge(&job_without_nowhere(&job), &rest.bytes()), due, "{}", path.display());
+        let first_fault = judge(&job, &bytes).first().cloned();
+        match (verdict(&job), book.kinds) {
+            (Err(Refusal { number: 17, place }), kinds) => {
+                nowhere[usize::from(kinds == Kinds::Newer)] += 1;
+                assert_eq!((less, planned(&job), plan_place(&job, PLAN_ROOM)), (1, Err(-17), place));
+            }
+            (Ok(_), Kinds::Older) => {
+                assert_eq!((less, first_fault.as_deref()), (0, Some("the plan has the older kinds")));
+            }
+            (due, kinds) => panic!("{}: a plan of {kinds:?} kinds, and {due:?}", path.display()),
         }
-        let kinds = judge(&job_of_older(&path), &bytes);
-        assert_eq!(kinds.first().map(String::as_str), Some("the plan has the older kinds"), "{}", path.display());
+        older += usize::from(book.kinds == Kinds::Older);
+        uncrossed += due.len();
     }
-    assert!(earlier > 0 && older_samples("plan").len() > 15, "all plans of before are there");
+    assert!(older > 15 && uncrossed == 1, "all plans of before there were groups: {older}, {uncrossed}");
+    assert_eq!(nowhere, [1, 2], "plans with a route of one corner, in the older and in the newer kinds");
 }
 
 /// Leases of several groups: how many, trench and saved; or none where one is no star.
@@ -192,8 +257,8 @@ fn older_plans_are_read() {
 fn the_samples_of_groups() {
     let outcomes = [
         ("groups-1-three-huts", Some((3, 8_500, 3_300))),
-        ("groups-2-corner", Some((3, 110, 50))),
-        ("groups-3-inside", Some((3, 300, 70))),
+        ("groups-2-corner", Some((2, 110, 50))),
+        ("groups-3-inside", Some((2, 300, 70))),
         ("groups-4-no-star", None),
         ("groups-5-single-runs", Some((32, 3_200, 0))),
     ];
@@ -210,18 +275,18 @@ fn the_samples_of_groups() {
 #[test]
 fn the_surveyed_examples_of_document_01() {
     let outcome = |n: usize| match n {
-        1 => Some((0, 0)),
-        2 => Some((7, 0)),
-        3 => Some((7, 7)),
-        5 => Some((10, 0)),
-        6 => Some((9, 3)),
-        7 => Some((10, 4)),
-        8 => Some((7, 2)),
-        9 => Some((16, 8)),
-        10 => Some((10, 3)),
-        11 => Some((8, 0)),
-        12 => Some((5, 1)),
-        _ => None,
+        1 => Err(-17),
+        2 => Ok((7, 0)),
+        3 => Ok((7, 7)),
+        4 => Err(-11),
+        5 => Ok((10, 0)),
+        6 => Ok((9, 3)),
+        7 => Ok((10, 4)),
+        8 => Ok((7, 2)),
+        9 => Ok((16, 8)),
+        10 => Ok((10, 3)),
+        11 => Ok((8, 0)),
+        _ => Ok((5, 1)),
     };
     let examples: Vec<_> = samples("job")
         .into_iter()
@@ -230,14 +295,13 @@ fn the_surveyed_examples_of_document_01() {
     assert_eq!(examples.len(), 12);
     for (n, path) in (1..).zip(examples) {
         let plan = planned(&std::fs::read(&path).expect("a sample"));
-        assert_eq!(plan.clone().ok().map(|plan| (plan.trench, plan.saved)), outcome(n), "{}", path.display());
-        assert_eq!(plan.err(), outcome(n).is_none().then_some(-11), "{}", path.display());
+        assert_eq!(plan.map(|plan| (plan.trench, plan.saved)), outcome(n), "{}", path.display());
     }
 }
 
 #[test]
 fn the_desk_plans_in_one_command() {
-    for path in samples("txt") {
+    for path in right_samples() {
         let typed = parse(&read(&path)).expect("a typed job");
         let job: &Job = &typed.job;
         let book = job_bytes(job);
@@ -267,6 +331,13 @@ fn the_desk_names_the_line_of_an_error() {
         (wrong.status.code(), text(&wrong.stderr), text(&wrong.stdout)),
         (Some(1), told.to_string(), String::new())
     );
+    let path = root().join("samples").join(NOWHERE);
+    let path = path.to_str().expect("a name");
+    for words in [&[path][..], &["--book", path]] {
+        let nowhere = run(desk(), words, &[]);
+        let told = (nowhere.status.code(), text(&nowhere.stderr), text(&nowhere.stdout));
+        assert_eq!(told, (Some(1), format!("{path}: {WHY_NOWHERE}\n"), String::new()));
+    }
     let missing = run(desk(), &["no/such/file"], &[]);
     assert_eq!(missing.status.code(), Some(2));
     assert!(text(&missing.stderr).starts_with("desk: no/such/file: "));

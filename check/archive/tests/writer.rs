@@ -144,7 +144,8 @@ fn every_length_of_buffer() {
     let mut writer = GuardedWriter::new(JobWriter::Archive, Against::Front);
     let labels = ["runs-0", "runs-1", "runs-2", "runs-31", "runs-32"];
     let faults = ["runs-33", "length-9", "number-equal", "second-y-above", "number-zero", "seven-and-eight"];
-    for label in labels.iter().chain(&faults) {
+    let points = ["points-coincide", "points-coincide-above", "seventeen-then-seven", "points-of-last"];
+    for label in labels.iter().chain(&faults).chain(&points) {
         let case = TABLE.iter().find(|case| case.label == *label).expect("a row of the table");
         for room in 0..case.limit() + 6 {
             let (answer, place, book) = answered(&mut writer, 9, &case.list, room);

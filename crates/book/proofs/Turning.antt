@@ -1,9 +1,9 @@
--- The corners of a Manhattan route turn.
+-- The corners of a Manhattan route between two points turn.
 --
 -- The straight way from a corner p ends at q where p, q and the next point r are not on one line. The pieces are straight, so q is not p, and r is not q:
 -- the corner q is joined to p, and turned towards r. Where the route goes on from r in the line of q and r, it does not come back to q, since it is monotone.
--- So the end of that straight way stays apart from q and off the line of p and q.
-use mathlib.Core.Path.{_≡_, refl, ap, _∙_}
+-- So the end of that straight way stays apart from q and off the line of p and q. A route that goes straight on to its end has its two points for corners.
+use mathlib.Core.Path.{_≡_, refl, sym, ap, _∙_}
 use mathlib.Core.Logic.{inl, inr, ⊎-map}
 use mathlib.Core.Bool.{Bool, true, false}
 use mathlib.Core.List.{List, [], _∷_}
@@ -13,19 +13,16 @@ use Rattle.network.specs.Lists.{All}
 use Rattle.network.specs.Plane.{Point, Run, _to_}
 use Rattle.network.specs.Grid.{Grid}
 use Rattle.network.specs.Route.{Route, piecesFrom, Straight, Manhattan}
-use Rattle.network.specs.Corners.{samePoint, straightOn, cornersFrom, corners}
+use Rattle.network.specs.Corners.{straightOn, cornersFrom, corners}
 use Rattle.network.proofs.Numbers.{Between, rise, fall}
 use Rattle.network.proofs.Lanes.{point-path}
 use Rattle.network.proofs.Monotone.{Towards, towards-first, towards-trans, Monotone, monotone}
 use Rattle.network.proofs.Joining.{On-line}
-use Rattle.network.proofs.Corners.{true-point, line-true, true-line}
+use Rattle.network.proofs.Corners.{line-true, true-line}
+use Rattle.network.proofs.Turns.{Moves}
 use Rattle.book.specs.Right.{Turned, Turning}
 
 -- ---- one turn
-
--- points that the test tells apart differ
-pub apart : (p q : Point) → samePoint p q ≡ false → p ≡ q → ⊥
-apart p q n e = let t = true-point p q e in let z : _≡_ {A = ℕ} 0 1 = cc in omega arith
 
 -- points that the test does not find on one line are on none
 pub off-line : (p q r : Point) → straightOn p q r ≡ false → On-line p q r → ⊥
@@ -83,11 +80,7 @@ turn-on o p q r t s h = (h .0, go s, record { differ = far; along = line-straigh
 -- after a turn from o over p to q, all corners turn
 turning-after : (o p q : Point) (l : List Point) (z : Point) → Turning (o ∷ p ∷ q ∷ []) → All Straight (piecesFrom q l) → Monotone p (q ∷ l) z
     → Turning (o ∷ p ∷ cornersFrom p q l)
-turning-after o p q [] z h s m = go (samePoint p q) refl
-  where
-    go : (b : Bool) → samePoint p q ≡ b → Turning (o ∷ p ∷ elim b as (λ u. List Point) [ true ↦ [] | false ↦ q ∷ [] ])
-    go true e = h .0
-    go false e = h
+turning-after o p q [] z h s m = h
 turning-after o p q (r ∷ l) z h s m = go (straightOn p q r) refl (λ k. turning-after o p r l z k (s .1) (towards-trans (m .0) (m .1 .0), m .1 .1))
     (λ k. turning-after p q r l z k (s .1) (m .1))
   where
@@ -97,23 +90,19 @@ turning-after o p q (r ∷ l) z h s m = go (straightOn p q r) refl (λ k. turnin
     go true e on at = on (turn-on o p q r (towards-first (m .0) (m .1 .0)) (line-true p q r e) h)
     go false e on at = (h .0, h .1, at (turn p q r (h .2 .along) (s .0) e))
 
--- from the start p, with q the end of the straight way so far
-turning-from : (p q : Point) (l : List Point) (z : Point) → Straight (p to q) → All Straight (piecesFrom q l) → Monotone p (q ∷ l) z
+-- from the start p to another point z, with q the end of the straight way so far
+turning-from : (p q : Point) (l : List Point) (z : Point) → (p ≡ z → ⊥) → Straight (p to q) → All Straight (piecesFrom q l) → Monotone p (q ∷ l) z
     → Turning (p ∷ cornersFrom p q l)
-turning-from p q [] z d s m = go (samePoint p q) refl
-  where
-    go : (b : Bool) → samePoint p q ≡ b → Turning (p ∷ elim b as (λ u. List Point) [ true ↦ [] | false ↦ q ∷ [] ])
-    go true e = tt
-    go false e = record { differ = apart p q e; along = d }
-turning-from p q (r ∷ l) z d s m = go (straightOn p q r) refl (λ k. turning-from p r l z k (s .1) (towards-trans (m .0) (m .1 .0), m .1 .1))
+turning-from p q [] z far d s m = record { differ = λ e. far (e ∙ m .1); along = d }
+turning-from p q (r ∷ l) z far d s m = go (straightOn p q r) refl (λ k. turning-from p r l z far k (s .1) (towards-trans (m .0) (m .1 .0), m .1 .1))
   where
     go : (b : Bool) → straightOn p q r ≡ b → (Straight (p to r) → Turning (p ∷ cornersFrom p r l))
         → Turning (p ∷ elim b as (λ u. List Point) [ true ↦ cornersFrom p r l | false ↦ q ∷ cornersFrom q r l ])
     go true e on = on (line-straight p q r (line-true p q r e))
     go false e on = turning-after p q r l z (turn p q r d (s .0) e) (s .1) (m .1)
 
--- the corners of a Manhattan route turn
-pub corners-turning : (g : Grid) (run : Run) (route : Route) → Manhattan g run route → Turning (corners route)
-corners-turning g run [] m = tt
-corners-turning g run (p ∷ []) m = tt
-corners-turning g run (p ∷ q ∷ l) m = turning-from p q l (run .second) (m .straight .0) (m .straight .1) (monotone p (q ∷ l) m)
+-- the corners of a Manhattan route between two points turn
+pub corners-turning : (g : Grid) (run : Run) (route : Route) → Moves run → Manhattan g run route → Turning (corners route)
+corners-turning g run [] moves m = tt
+corners-turning g run (p ∷ []) moves m = tt
+corners-turning g run (p ∷ q ∷ l) moves m = turning-from p q l (run .second) (λ e. moves (sym (m .starts) ∙ e)) (m .straight .0) (m .straight .1) (monotone p (q ∷ l) m)

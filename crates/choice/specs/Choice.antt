@@ -22,7 +22,7 @@ lesser (is.Refused x) second = Refused x
 lesser (is.Passed t) (is.Refused x) = Refused x
 lesser (is.Passed t) (is.Passed u) = cond (leb t u) First Second
 
--- "The job's refusals 3 to 11 come first with their own places, then for the first book .., then the same for the second"
+-- "The job's refusals 3 to 11", 17 among them (C-18), "come first with their own places, then for the first book .., then the same for the second"
 unfoldable pub choiceFor : Parsed → (first second : List ℕ) → Choice
 choiceFor (refused x) first second = Refused x
 choiceFor (accepted number runs) first second =

@@ -25,6 +25,7 @@ use Rattle.refusal.specs.declared.Refusal.the-variants.{
   Miscounted,
   OtherJob,
   Untrue,
+  Coincident,
 }
 use Rattle.refusal.specs.Refusal.{refusalPlace}
 use Rattle.job.specs.declared.Run.{Run as Read}
@@ -104,6 +105,7 @@ book-place place (NoTurn at) = omega arith
 book-place place (Miscounted at) = omega arith
 book-place place (OtherJob at) = omega arith
 book-place place (Untrue at) = omega arith
+book-place place (Coincident at) = omega arith
 
 -- a book that passes is no longer than any plan, and one that is refused is so at most at its place
 abbrev JudgedIn : (place : ℕ) → List ℕ → Judgement → Type 0

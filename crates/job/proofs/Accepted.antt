@@ -100,7 +100,7 @@ module _ (number : ℕ) (at n last : ℕ) (bytes : List ℕ) (h : Bytes bytes) (
       rw (← all)
       (record {
         same = tail .same;
-        up = more (t .rises) (t .range) (tail .up);
+        up = more (t .rises) (t .range) (t .apart) (tail .up);
         below = omega (arith, tail .below);
         written = run-bytes bytes r h (t .is) ∙ ap (λ l. runBytes r ++ l) (tail .written ∙ rw count);
       })

@@ -16,7 +16,7 @@ use Rattle.refusal.specs.declared.Refusal.the-variants.{Cut, UnknownKind, Mispl
 use Rattle.job.specs.declared.Step.{Step}
 use Rattle.job.specs.declared.Step.the-variants.{Next, End, Refuse}
 use Rattle.refusal.specs.Refusal.{refusalPlace}
-use Rattle.job.specs.Applies.{Kind, head, run, end, byteOf, Whole, Behind, AppliesIn, cut-inside, cut-before-end, unknown-kind, no-head, second-head, after-end, wrong-count, number-zero, number-above, not-rising, out-of-range, run-33}
+use Rattle.job.specs.Applies.{Kind, head, run, end, byteOf, Whole, Behind, AppliesIn, cut-inside, cut-before-end, unknown-kind, no-head, second-head, after-end, wrong-count, number-zero, number-above, not-rising, out-of-range, run-33, coincident}
 use Rattle.job.specs.Order.{turnOf, Sooner, by-stage, by-place, by-turn, FirstOf}
 use Rattle.job.specs.Records.{recordOf}
 use Rattle.job.specs.Parse.{Parsed, accepted, refused, stepOf, withFirst, proceed, readFrom, firstBy, parse}
@@ -76,6 +76,7 @@ at-first s x (number-above b h l) e = not-first s _ _ b e
 at-first s x (not-rising b h l) e = not-first s _ _ b e
 at-first s x (out-of-range i b h l f) e = not-first s _ _ b e
 at-first s x (run-33 b h) e = not-first s _ _ b e
+at-first s x (coincident b h f g) e = not-first s _ _ b e
 
 module _ (s : List ℕ) where
   -- what applies at 0 is the first, if nothing else that applies there has an earlier turn

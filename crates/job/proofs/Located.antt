@@ -9,12 +9,13 @@ use mathlib.Core.List.{List}
 use native.Mathlib.Omega.{arith}
 use lib.ListN.{length, getD}
 use Rattle.refusal.specs.declared.Refusal.{Refusal}
-use Rattle.refusal.specs.declared.Refusal.the-variants.{Cut, UnknownKind, Misplaced, WrongCount, WrongNumber, OutOfRange, TooManyRuns}
+use Rattle.refusal.specs.declared.Refusal.the-variants.{Cut, UnknownKind, Misplaced, WrongCount, WrongNumber, OutOfRange, TooManyRuns, Coincident}
 use Rattle.refusal.specs.Refusal.{refusalPlace}
-use Rattle.job.specs.Applies.{head, run, end, Starts, Whole, place, Behind, numberAt, AppliesIn, cut-inside, cut-before-end, unknown-kind, no-head, second-head, after-end, wrong-count, number-zero, number-above, not-rising, out-of-range, run-33}
+use Rattle.job.specs.Applies.{head, run, end, Starts, Whole, place, Behind, numberAt, coordinateAt, AppliesIn, cut-inside, cut-before-end, unknown-kind, no-head, second-head, after-end, wrong-count, number-zero, number-above, not-rising, out-of-range, run-33, coincident}
 use Rattle.job.specs.Order.{stageOf, turnOf, Sooner, by-stage, by-place, by-turn, FirstOf}
+use Rattle.job.specs.Written.{Coincide}
 use Rattle.job.proofs.Decoded.{CutAt, inside, before-end, UnknownAt}
-use Rattle.job.proofs.There.{coordinateAt, whole-uncut, whole-known}
+use Rattle.job.proofs.There.{runAt, whole-uncut, whole-known}
 use Rattle.job.proofs.Order.{InOrder, either-way}
 
 -- ---- what is wrong with a record
@@ -40,6 +41,7 @@ pub data Here (s : List ℕ) (n p : ℕ) : Refusal → Type 0 where
   number-here : {q : ℕ} → Whole run s p → WrongNumberAt s n p → Here s n p (WrongNumber q)
   range-here : {q : ℕ} → Whole run s p → OutOfRangeAt s p → Here s n p (OutOfRange q)
   run-33-here : {q : ℕ} → n ≡ 32 → Starts run s p → Here s n p (TooManyRuns q)
+  points-here : {q : ℕ} → Whole run s p → Coincide (runAt s p) → Here s n p (Coincident q)
 
 module _ (s : List ℕ) (n p : ℕ) (b : Behind s n p) where
   -- 3 applies where the bytes end inside the record, or before it
@@ -62,6 +64,7 @@ module _ (s : List ℕ) (n p : ℕ) (b : Behind s n p) where
   applies-here x e (number-here w d) = rw (← e) (number-applies w d)
   applies-here x e (range-here w d) = rw (← e) (out-of-range (d .which) b w (d .one) (d .far))
   applies-here x e (run-33-here m r) = rw (← e) (run-33 (rw m at b) r)
+  applies-here x e (points-here w d) = rw (← e) (coincident b w (d .0) (d .1))
 
 -- what applies where a head stands first: a record behind it is wrong, or a byte stands behind the end
 data Found (s : List ℕ) (x : Refusal) : Type 0 where
@@ -85,6 +88,7 @@ found s w x (number-above b h l) = nth _ _ b refl (number-here h (above l))
 found s w x (not-rising b h l) = nth _ _ b refl (number-here h (not-above _ refl l))
 found s w x (out-of-range i b h l f) = nth _ _ b refl (range-here h (record { which = i; one = l; far = f }))
 found s w x (run-33 b h) = nth 32 _ b refl (run-33-here refl h)
+found s w x (coincident b h d e) = nth _ _ b refl (points-here h (d, e))
 
 -- all refusals of the bytes are of one stage
 pub one-stage : (s : List ℕ) (x : Refusal) → AppliesIn s x → stageOf x ≡ stageOf (Cut 0)
@@ -100,6 +104,7 @@ one-stage s x (number-above b h l) = refl
 one-stage s x (not-rising b h l) = refl
 one-stage s x (out-of-range i b h l f) = refl
 one-stage s x (run-33 b h) = refl
+one-stage s x (coincident b h d e) = refl
 
 -- so it stands in the order
 pub in-order : (s : List ℕ) (x : Refusal) → AppliesIn s x → InOrder x
@@ -116,6 +121,7 @@ lastNumber s (suc m) = numberAt s (place m)
 pub record Right (s : List ℕ) (i : ℕ) : Type 0 where
   pub numbered : WrongNumberAt s i (place i) → ⊥
   pub ranged : OutOfRangeAt s (place i) → ⊥
+  pub apart : Coincide (runAt s (place i)) → ⊥
 
 -- the reader has passed a head and n runs, all of them right, the last of them with the number last, and stands at p
 pub record Passed (s : List ℕ) (n p last : ℕ) : Type 0 where
@@ -148,6 +154,7 @@ module _ (s : List ℕ) (n p last : ℕ) (h : Passed s n p last) where
   settled m l x (number-here w d) = h .right m l .numbered d
   settled m l x (range-here w d) = h .right m l .ranged d
   settled m l x (run-33-here e r) = omega (arith, e, h .most)
+  settled m l x (points-here w d) = h .right m l .apart d
 
   -- the run at p, where the bytes go on behind it
   run-here : (m q : ℕ) → Behind s m q → n < m → Whole run s p

@@ -8,7 +8,7 @@ use native.Mathlib.Omega.{arith}
 use native.Mathlib.Decide.{decLt}
 use lib.ListN.{length, getD}
 use Rattle.refusal.specs.declared.Refusal.{Refusal}
-use Rattle.refusal.specs.declared.Refusal.the-variants.{ShortWork, ShortBuffer, Cut, UnknownKind, Misplaced, WrongCount, WrongNumber, OutOfRange, TooManyRuns, NoStar, NotWhole, NoTurn, Miscounted, OtherJob, Untrue}
+use Rattle.refusal.specs.declared.Refusal.the-variants.{ShortWork, ShortBuffer, Cut, UnknownKind, Misplaced, WrongCount, WrongNumber, OutOfRange, TooManyRuns, NoStar, NotWhole, NoTurn, Miscounted, OtherJob, Untrue, Coincident}
 use Rattle.refusal.specs.Refusal.{refusalNumber, refusalPlace}
 use Rattle.refusal.proofs.Numbers.{same-refusal}
 use Rattle.job.specs.Order.{order, stageOf, turnOf, Sooner, by-stage, by-place, by-turn}
@@ -38,6 +38,7 @@ number-in (NoTurn p) i = absurd (omega arith)
 number-in (Miscounted p) i = absurd (omega arith)
 number-in (OtherJob p) i = absurd (omega arith)
 number-in (Untrue p) i = absurd (omega arith)
+number-in (Coincident p) i = refl
 
 -- two numbers, one of which is less unless they are equal
 pub either-way : (m n : ℕ) → (m < n) ⊎ ((m ≡ n) ⊎ (n < m))

@@ -12,13 +12,9 @@ use Rattle.job.specs.declared.Run.{Run}
 use Rattle.job.specs.declared.Record.{Record}
 use Rattle.job.specs.declared.Record.the-variants as rec
 use Rattle.job.specs.Fields.{word2, word4, biasedOf}
-use Rattle.job.specs.Applies.{Kind, head, run, end, byteOf, sizeOf, Whole, Behind, numberAt}
+use Rattle.job.specs.Applies.{Kind, head, run, end, byteOf, sizeOf, Whole, Behind, numberAt, coordinateAt}
 use Rattle.job.specs.Records.{runBody, recordOf}
 use Rattle.job.proofs.Decoded.{CutAt, inside, before-end, UnknownAt, Says, record-says}
-
--- coordinate i of a run, from 0, biased
-abbrev pub coordinateAt : List ℕ → ℕ → ℕ → ℕ
-coordinateAt s p i = biasedOf (word4 s (p + 3 + 4 * i))
 
 -- the run whose record stands at a place
 abbrev pub runAt : List ℕ → ℕ → Run

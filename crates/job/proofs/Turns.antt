@@ -13,16 +13,17 @@ use lib.ListN.{length, drop, length-drop}
 use Rattle.job.specs.declared.Record.{Record}
 use Rattle.job.specs.declared.Record.the-variants as rec
 use Rattle.refusal.specs.declared.Refusal.{Refusal}
-use Rattle.refusal.specs.declared.Refusal.the-variants.{Cut, UnknownKind, Misplaced, WrongCount, WrongNumber, OutOfRange, TooManyRuns}
+use Rattle.refusal.specs.declared.Refusal.the-variants.{Cut, UnknownKind, Misplaced, WrongCount, WrongNumber, OutOfRange, TooManyRuns, Coincident}
 use Rattle.job.specs.declared.Step.{Step}
 use Rattle.job.specs.declared.Step.the-variants.{Next, End, Refuse}
-use Rattle.job.specs.Applies.{Kind, head, run, end, Whole, place, numberAt, AppliesIn, after-end}
+use Rattle.job.specs.Applies.{Kind, head, run, end, Whole, place, numberAt, coordinateAt, AppliesIn, after-end}
 use Rattle.job.specs.Order.{turnOf, Sooner, FirstOf}
-use Rattle.job.specs.Parse.{follows, coordinatesIn, runStep, endStep, stepBy}
+use Rattle.job.specs.Parse.{follows, coordinatesIn, coincide, runStep, endStep, stepBy}
+use Rattle.job.specs.Written.{Coincide}
 use Rattle.job.proofs.Decoded.{by-test, CutAt, UnknownAt}
-use Rattle.job.proofs.Steps.{Follows, follows-true, Coordinates, coordinates-true}
-use Rattle.job.proofs.There.{coordinateAt, runAt, There, whole-uncut, whole-known, cut-known}
-use Rattle.job.proofs.Located.{WrongNumberAt, is-zero, above, not-above, OutOfRangeAt, Here, cut-here, unknown-here, head-here, count-here, number-here, range-here, run-33-here, lastNumber, Right, Passed, Located, here, later, behind, run-head, run-end, locate, first-here}
+use Rattle.job.proofs.Steps.{Follows, follows-true, Coordinates, coordinates-true, coincide-true, coincide-false}
+use Rattle.job.proofs.There.{runAt, There, whole-uncut, whole-known, cut-known}
+use Rattle.job.proofs.Located.{WrongNumberAt, is-zero, above, not-above, OutOfRangeAt, Here, cut-here, unknown-here, head-here, count-here, number-here, range-here, run-33-here, points-here, lastNumber, Right, Passed, Located, here, later, behind, run-head, run-end, locate, first-here}
 use Rattle.job.proofs.Order.{either-way, sooner-self}
 
 -- ---- the tests of a run
@@ -132,23 +133,26 @@ module _ (s : List ℕ) (p : ℕ) where
   sort n y (number-here w d) = rest (omega arith)
   sort n y (range-here w d) = rest (omega arith)
   sort n y (run-33-here m r) = rest (omega arith)
+  sort n y (points-here w d) = rest (omega arith)
 
 -- what can be wrong with a whole run
 data RunFault (s : List ℕ) (n p : ℕ) (x : Refusal) : Type 0 where
   too-many : turnOf x ≡ turnOf (TooManyRuns p) → n ≡ 32 → RunFault s n p x
   misnumbered : turnOf x ≡ turnOf (WrongNumber p) → WrongNumberAt s n p → RunFault s n p x
-  ranging : turnOf x ≡ turnOf (OutOfRange p) → RunFault s n p x
+  ranging : turnOf x ≡ turnOf (OutOfRange p) → OutOfRangeAt s p → RunFault s n p x
+  pointing : turnOf x ≡ turnOf (Coincident p) → RunFault s n p x
 
 module _ (s : List ℕ) (n p last : ℕ) (h : Passed s n p last) where
-  -- a whole run can only be one too many, or have a wrong number, or a coordinate out of range
+  -- a whole run can only be one too many, or have a wrong number, a coordinate out of range, or points that coincide
   run-fault : Whole run s p → (y : Refusal) → Here s n p y → RunFault s n p y
   run-fault w y (cut-here c) = absurd (whole-uncut run s p w c)
   run-fault w y (unknown-here u) = absurd (whole-known run s p w u)
   run-fault w y (head-here d) = absurd (run-head s p w d)
   run-fault w y (count-here v d) = absurd (run-end s p w (v .0))
   run-fault w y (number-here v d) = misnumbered refl d
-  run-fault w y (range-here v d) = ranging refl
+  run-fault w y (range-here v d) = ranging refl d
   run-fault w y (run-33-here m r) = too-many refl m
+  run-fault w y (points-here v d) = pointing refl
 
   -- a whole end can only have a wrong count
   end-fault : Whole end s p → (y : Refusal) → Here s n p y → (turnOf (WrongCount p) ≤ turnOf y) × (numberAt s p ≡ n → ⊥)
@@ -159,34 +163,45 @@ module _ (s : List ℕ) (n p last : ℕ) (h : Passed s n p last) where
   end-fault w y (number-here v d) = absurd (run-end s p v (w .0))
   end-fault w y (range-here v d) = absurd (run-end s p v (w .0))
   end-fault w y (run-33-here m r) = absurd (omega (arith, w .0 .1, r .1))
+  end-fault w y (points-here v d) = absurd (run-end s p v (w .0))
 
   -- of what can be wrong with a run, 9 comes first
   least-nine : (y : Refusal) → RunFault s n p y → turnOf (TooManyRuns p) ≤ turnOf y
   least-nine y (too-many t e) = omega arith
   least-nine y (misnumbered t e) = omega arith
-  least-nine y (ranging t) = omega arith
+  least-nine y (ranging t e) = omega arith
+  least-nine y (pointing t) = omega arith
 
   -- then 7
   least-seven : n < 32 → (y : Refusal) → RunFault s n p y → turnOf (WrongNumber p) ≤ turnOf y
   least-seven l y (too-many t e) = absurd (omega arith)
   least-seven l y (misnumbered t e) = omega arith
-  least-seven l y (ranging t) = omega arith
+  least-seven l y (ranging t e) = omega arith
+  least-seven l y (pointing t) = omega arith
 
   -- then 8
   least-eight : n < 32 → (WrongNumberAt s n p → ⊥) → (y : Refusal) → RunFault s n p y → turnOf (OutOfRange p) ≤ turnOf y
   least-eight l f y (too-many t e) = absurd (omega arith)
   least-eight l f y (misnumbered t e) = absurd (f e)
-  least-eight l f y (ranging t) = omega arith
+  least-eight l f y (ranging t e) = omega arith
+  least-eight l f y (pointing t) = omega arith
+
+  -- then 17
+  least-seventeen : n < 32 → (WrongNumberAt s n p → ⊥) → (OutOfRangeAt s p → ⊥) → (y : Refusal) → RunFault s n p y → turnOf (Coincident p) ≤ turnOf y
+  least-seventeen l f g y (too-many t e) = absurd (omega arith)
+  least-seventeen l f g y (misnumbered t e) = absurd (f e)
+  least-seventeen l f g y (ranging t e) = absurd (g e)
+  least-seventeen l f g y (pointing t) = omega arith
 
   -- one more run that is right
-  passed-more : Whole run s p → n < 32 → (WrongNumberAt s n p → ⊥) → (OutOfRangeAt s p → ⊥) → Passed s (suc n) (p + 19) (numberAt s p)
-  passed-more w l f g =
+  passed-more : Whole run s p → n < 32 → (WrongNumberAt s n p → ⊥) → (OutOfRangeAt s p → ⊥) → (Coincide (runAt s p) → ⊥) → Passed s (suc n) (p + 19) (numberAt s p)
+  passed-more w l f g d =
       let e = h .behind .at in
       record {
         behind = record { at = omega arith; headed = h .behind .headed; runs = λ i m. upTo (λ j. Whole run s (place j)) (h .behind .runs) (rw e at w) i m };
         most = l;
         is-last = ap (numberAt s) e;
-        right = upTo (Right s) (h .right) (record { numbered = rw e at f; ranged = rw e at g });
+        right = upTo (Right s) (h .right) (record { numbered = rw e at f; ranged = rw e at g; apart = rw e at d });
       }
     where
       upTo : (P : ℕ → Type 0) → ((i : ℕ) → i < n → P i) → P n → (i : ℕ) → i < suc n → P i
@@ -209,7 +224,11 @@ module _ (s : List ℕ) (n p last : ℕ) (h : Passed s n p last) where
       let f = number-right s n p last (h .is-last) (follows-true last (numberAt s p) (not-false _ b)) in
       by-test (Told s n p) (not (coordinatesIn (runAt s p)))
       (λ t. first-here s n p last h (OutOfRange p) refl (range-here w (range-wrong s p (not-true _ t))) (λ y d. least-eight (leb-false _ _ a) f y (run-fault w y d)))
-      (λ c. passed-more w (leb-false _ _ a) f (range-right s p (coordinates-true (runAt s p) (not-false _ c))))))
+      (λ c.
+      let g = range-right s p (coordinates-true (runAt s p) (not-false _ c)) in
+      by-test (Told s n p) (coincide (runAt s p))
+      (λ t. first-here s n p last h (Coincident p) refl (points-here w (coincide-true (runAt s p) t)) (λ y d. least-seventeen (leb-false _ _ a) f g y (run-fault w y d)))
+      (λ d. passed-more w (leb-false _ _ a) f g (coincide-false (runAt s p) d)))))
 
   -- an end with which nothing is wrong: whatever applies is the byte behind it
   only-behind : Whole end s p → numberAt s p ≡ n → (x : Refusal) → AppliesIn s x → (x ≡ Misplaced (p + 3)) × (p + 3 < length s)

@@ -7,7 +7,7 @@ use native.Mathlib.Omega.{arith}
 use lib.ListN.{length}
 use Rattle.refusal.specs.declared.Refusal.{Refusal}
 use Rattle.refusal.specs.Refusal.{refusalPlace}
-use Rattle.job.specs.Applies.{Begins, AppliesIn, cut-inside, cut-before-end, unknown-kind, no-head, second-head, after-end, wrong-count, number-zero, number-above, not-rising, out-of-range, run-33}
+use Rattle.job.specs.Applies.{Begins, AppliesIn, cut-inside, cut-before-end, unknown-kind, no-head, second-head, after-end, wrong-count, number-zero, number-above, not-rising, out-of-range, run-33, coincident}
 use Rattle.job.proofs.There.{behind-within}
 
 -- a record begins among the bytes, or behind the last
@@ -29,3 +29,4 @@ applies-within s x (number-above b h l) = behind-within s _ _ b
 applies-within s x (not-rising b h l) = behind-within s _ _ b
 applies-within s x (out-of-range i b h l f) = behind-within s _ _ b
 applies-within s x (run-33 b h) = behind-within s _ _ b
+applies-within s x (coincident b h d e) = behind-within s _ _ b

@@ -13,9 +13,10 @@ use Rattle.job.specs.declared.Step.the-variants.{Next, End}
 use Rattle.job.specs.Fields.{word4, biasedOf, wordOf}
 use Rattle.job.specs.Records.{decoded, recordOf}
 use Rattle.job.specs.Parse.{accepted, runStep, endStep, stepBy, stepOf, withFirst, proceed, readFrom, firstBy, parse}
-use Rattle.job.specs.Written.{bytes2, bytes4, runBytes, runsBytes, bytesOf, InRange, WellFormed}
+use Rattle.job.specs.Written.{bytes2, bytes4, runBytes, runsBytes, bytesOf, InRange, Coincide, WellFormed}
 use Rattle.job.proofs.Signed.{biased-of-word}
 use Rattle.job.proofs.Fields.{word2-bytes, word4-bytes}
+use Rattle.job.proofs.Steps.{apart-tested}
 use Rattle.job.proofs.Rising.{Rising, none, more, well-formed-rising}
 
 -- a written coordinate is read back
@@ -46,10 +47,10 @@ end-back : (n : ℕ) → n < 65536 → recordOf (0x5A ∷ bytes2 n) ≡ rec.End 
 unfolding recordOf decoded
 end-back n h = ap rec.End (word2-bytes n h [])
 
--- a run in range, with a number above the last and fewer than 32 before it, is taken
-run-taken : (at n last : ℕ) (r : Run) → n < 32 → last < r .number → InRange r → runStep at n last r ≡ Next r
+-- a run in range and between two points, with a number above the last and fewer than 32 before it, is taken
+run-taken : (at n last : ℕ) (r : Run) → n < 32 → last < r .number → InRange r → (Coincide r → ⊥) → runStep at n last r ≡ Next r
 unfolding runStep
-run-taken at n last r below up h =
+run-taken at n last r below up h apart =
     simp (
       lt-leb 32 n below,
       le-leb 1 (r .number) (h .least),
@@ -59,6 +60,7 @@ run-taken at n last r below up h =
       le-leb (r .y1) 2000000 (h .y1-in),
       le-leb (r .x2) 2000000 (h .x2-in),
       le-leb (r .y2) 2000000 (h .y2-in),
+      apart-tested r apart,
     )
 
 -- an end with the count of the runs before it, and no byte after it, is reached
@@ -67,9 +69,9 @@ unfolding endStep
 end-reached at n bytes last = simp (eq-eqb n n refl, le-ltb 3 (length bytes) last)
 
 -- a written run is taken
-step-taken : (at n last : ℕ) (r : Run) (rest : List ℕ) → n < 32 → last < r .number → InRange r → stepOf at n last (runBytes r ++ rest) ≡ Next r
+step-taken : (at n last : ℕ) (r : Run) (rest : List ℕ) → n < 32 → last < r .number → InRange r → (Coincide r → ⊥) → stepOf at n last (runBytes r ++ rest) ≡ Next r
 unfolding stepBy
-step-taken at n last r rest below up h = ap (stepBy at n last (runBytes r ++ rest)) (run-back r h rest) ∙ run-taken at n last r below up h
+step-taken at n last r rest below up h apart = ap (stepBy at n last (runBytes r ++ rest)) (run-back r h rest) ∙ run-taken at n last r below up h apart
 
 -- a written end is reached
 step-reached : (at n last : ℕ) → n ≤ 32 → stepOf at n last (0x5A ∷ bytes2 n) ≡ End
@@ -84,16 +86,22 @@ unfolding readFrom runsBytes
 runs-back zero number at n last runs up fuel below = absurd (omega arith)
 runs-back (suc records) number at n last [] none fuel below =
     rw (add-zero n) (ap (proceed number _) (step-reached at n last (omega arith)))
-runs-back (suc records) number at n last (r ∷ runs) (more rises range rest) fuel below =
+runs-back (suc records) number at n last (r ∷ runs) (more rises range apart rest) fuel below =
     let e : n + suc (length runs) ≡ suc n + length runs = omega arith in
     rw e
-    (ap (proceed number _) (step-taken at n last r (runsBytes runs ++ (0x5A ∷ bytes2 (suc n + length runs))) (omega arith) rises range)
+    (ap (proceed number _) (step-taken at n last r (runsBytes runs ++ (0x5A ∷ bytes2 (suc n + length runs))) (omega arith) rises range apart)
     ∙ ap (withFirst r) (runs-back records number (at + 19) (suc n) (r .number) runs rest (omega arith) (omega arith)))
+
+-- the head of a job that is written is read, and its records are then read on
+pub head-read : (number : ℕ) (runs : List Run) → number < 2 ^ 32
+    → parse (bytesOf number runs) ≡ readFrom 33 number 5 0 0 (runsBytes runs ++ (0x5A ∷ bytes2 (length runs)))
+unfolding parse firstBy bytesOf
+head-read number runs h =
+    let rest = runsBytes runs ++ (0x5A ∷ bytes2 (length runs)) in
+    ap (λ g. firstBy g rest) (head-back number h rest)
 
 -- the bytes of a well formed job are read as that job
 pub written-read : (number : ℕ) (runs : List Run) → WellFormed number runs → parse (bytesOf number runs) ≡ accepted number runs
-unfolding parse firstBy bytesOf
 written-read number runs w =
-    let end = runsBytes runs ++ (0x5A ∷ bytes2 (length runs)) in
-    ap (λ g. firstBy g end) (head-back number (w .fits) end)
+    head-read number runs (w .fits)
     ∙ rw (zero-add (length runs)) at (runs-back 33 number 5 0 0 runs (well-formed-rising number runs w) (omega (arith, w .most)) (omega (arith, w .most)))

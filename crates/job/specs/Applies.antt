@@ -1,4 +1,5 @@
--- When a refusal of the bytes applies: the list 3 to 9 of document 01, "What a call says and leaves", each number by itself, for every place.
+-- When a refusal of the bytes applies: the list 3 to 9 of document 01, "What a call says and leaves", and 17 of document 02, C-18, each number by itself, for
+-- every place.
 -- Nothing is read in order here, and several can apply, also to one record: a record need not be whole to be misplaced (5) or one run too many (9),
 -- so 3 can apply beside them. Which of those that apply is given, `Order` says.
 -- Assumes nothing.
@@ -9,7 +10,7 @@ use mathlib.Core.List.{List}
 use lib.ListN.{length, getD}
 use Rattle.job.specs.Fields.{word2, word4, biasedOf}
 use Rattle.refusal.specs.declared.Refusal.{Refusal}
-use Rattle.refusal.specs.declared.Refusal.the-variants.{Cut, UnknownKind, Misplaced, WrongCount, WrongNumber, OutOfRange, TooManyRuns}
+use Rattle.refusal.specs.declared.Refusal.the-variants.{Cut, UnknownKind, Misplaced, WrongCount, WrongNumber, OutOfRange, TooManyRuns, Coincident}
 
 -- "Each record is one byte of kind, then a body whose length the kind fixes": the kinds, their bytes, and how many bytes a record has, the
 -- kind byte among them.
@@ -48,6 +49,10 @@ Begins s p = (p ≡ 0) ⊎ ((n : ℕ) × Behind s n p)
 abbrev pub numberAt : List ℕ → ℕ → ℕ
 numberAt s p = word2 s (p + 1)
 
+-- coordinate i of a run, from 0: first x, first y, second x, second y, "4 bytes each" behind the run number, biased (see `Fields`)
+abbrev pub coordinateAt : List ℕ → ℕ → ℕ → ℕ
+coordinateAt s p i = biasedOf (word4 s (p + 3 + 4 * i))
+
 -- A refusal applies to the bytes of a job. 1, 2 and 11 are not about the bytes.
 pub data AppliesIn (s : List ℕ) : Refusal → Type 0 where
   -- 3: "the bytes end inside a record, or before an end record (then the place is the length)"
@@ -65,7 +70,10 @@ pub data AppliesIn (s : List ℕ) : Refusal → Type 0 where
   number-zero : {n p : ℕ} → Behind s n p → Whole run s p → numberAt s p ≡ 0 → AppliesIn s (WrongNumber p)
   number-above : {n p : ℕ} → Behind s n p → Whole run s p → 9999 < numberAt s p → AppliesIn s (WrongNumber p)
   not-rising : {n p : ℕ} → Behind s (suc n) p → Whole run s p → numberAt s p ≤ numberAt s (place n) → AppliesIn s (WrongNumber p)
-  -- 8: "coordinate outside its range": one of the four behind the run number, "4 bytes each", biased (see `Fields`)
-  out-of-range : {n p : ℕ} (i : ℕ) → Behind s n p → Whole run s p → i < 4 → 2000000 < biasedOf (word4 s (p + 3 + 4 * i)) → AppliesIn s (OutOfRange p)
+  -- 8: "coordinate outside its range"
+  out-of-range : {n p : ℕ} (i : ℕ) → Behind s n p → Whole run s p → i < 4 → 2000000 < coordinateAt s p i → AppliesIn s (OutOfRange p)
   -- 9: "a 33rd run"
   run-33 : {p : ℕ} → Behind s 32 p → Starts run s p → AppliesIn s (TooManyRuns p)
+  -- 17: "a run whose two points coincide"
+  coincident : {n p : ℕ} → Behind s n p → Whole run s p → coordinateAt s p 0 ≡ coordinateAt s p 2 → coordinateAt s p 1 ≡ coordinateAt s p 3
+      → AppliesIn s (Coincident p)

@@ -1,5 +1,5 @@
 -- Reading a job, as the contracts cite it: one head, then the runs, then one end, and no byte after it; the tests of a record are made in the
--- order 4, 3, 5, 9, 7, 8, 6. What it comes to is said without reading in `Written` (by `accepted-iff`), `Applies` and `Order` (by
+-- order 4, 3, 5, 9, 7, 8, 17, 6. What it comes to is said without reading in `Written` (by `accepted-iff`), `Applies` and `Order` (by
 -- `first-applies` and `none-applies`).
 -- Assumes nothing.
 use Prim.Native.Nat.{ℕ, zero, suc, _+_}
@@ -12,7 +12,7 @@ use Rattle.job.specs.declared.Run.{Run}
 use Rattle.job.specs.declared.Record.{Record}
 use Rattle.job.specs.declared.Record.the-variants as rec
 use Rattle.refusal.specs.declared.Refusal.{Refusal}
-use Rattle.refusal.specs.declared.Refusal.the-variants.{Cut, UnknownKind, Misplaced, WrongCount, WrongNumber, OutOfRange, TooManyRuns}
+use Rattle.refusal.specs.declared.Refusal.the-variants.{Cut, UnknownKind, Misplaced, WrongCount, WrongNumber, OutOfRange, TooManyRuns, Coincident}
 use Rattle.job.specs.declared.Step.{Step}
 use Rattle.job.specs.declared.Step.the-variants.{Next, End, Refuse}
 
@@ -29,15 +29,20 @@ follows last number = leb 1 number && leb number 9999 && ltb last number
 abbrev pub coordinatesIn : Run → Bool
 coordinatesIn r = leb (r .x1) 2000000 && leb (r .y1) 2000000 && leb (r .x2) 2000000 && leb (r .y2) 2000000
 
+-- the two points are one
+abbrev pub coincide : Run → Bool
+coincide r = eqb (r .x1) (r .x2) && eqb (r .y1) (r .y2)
+
 -- A record after the head: `at` is the place of its kind byte, `n` the number of runs before it, `last` the number of the last of them
 -- (0 where there is none), and `bytes` what stands from its kind byte on.
 
--- a run: 9, then 7, then 8
+-- a run: 9, then 7, then 8, then 17
 unfoldable pub runStep : (at n last : ℕ) → Run → Step
 runStep at n last r =
     cond (leb 32 n) (Refuse (TooManyRuns at))
     (cond (not (follows last (r .number))) (Refuse (WrongNumber at))
-    (cond (not (coordinatesIn r)) (Refuse (OutOfRange at)) (Next r)))
+    (cond (not (coordinatesIn r)) (Refuse (OutOfRange at))
+    (cond (coincide r) (Refuse (Coincident at)) (Next r))))
 
 -- an end: 6; then 5 for a byte after it, at that byte
 unfoldable pub endStep : (at n count : ℕ) → List ℕ → Step

@@ -1,6 +1,7 @@
 -- A job written down as document 01's "Job book" says, and when a job is well formed: the description of acceptance that reads nothing.
 -- Assumes nothing.
 use Prim.Native.Nat.{ℕ, _/_, _%_, _^_, _<_, _≤_}
+use mathlib.Core.Path.{_≡_}
 use mathlib.Core.List.{List, [], _∷_, _++_}
 use lib.ListN.{length, getD}
 use Rattle.job.specs.Fields.{wordOf}
@@ -44,9 +45,15 @@ pub record InRange (r : Run) : Type 0 where
   pub x2-in : r .x2 ≤ 2000000
   pub y2-in : r .y2 ≤ 2000000
 
--- the job number has 32 bits, there are at most 32 runs (none in a blank job: document 02, C-11), each in range, and their numbers rise strictly
+-- "A run with both ends on one point" (document 02, C-18)
+abbrev pub Coincide : Run → Type 0
+Coincide r = (r .x1 ≡ r .x2) × (r .y1 ≡ r .y2)
+
+-- the job number has 32 bits, there are at most 32 runs (none in a blank job: document 02, C-11), each in range and between two points, and their numbers rise
+-- strictly
 pub record WellFormed (number : ℕ) (runs : List Run) : Type 0 where
   pub fits : number < 2 ^ 32
   pub most : length runs ≤ 32
   pub in-range : (k : ℕ) → k < length runs → InRange (getD runs k noRun)
+  pub apart : (k : ℕ) → k < length runs → Coincide (getD runs k noRun) → ⊥
   pub rising : (j k : ℕ) → j < k → k < length runs → getD runs j noRun .number < getD runs k noRun .number

@@ -9,7 +9,7 @@ ghost use mir.Val.{toZ};
 ghost use Rattle.job.specs.Fields.{word2, word4, biasedOf};
 ghost use Rattle.job.specs.Records.{runBody, decoded, recordOf};
 ghost use Rattle.job.specs.Branches.{NotRun, NotHead};
-ghost use Rattle.job.specs.Parse.{follows, coordinatesIn, runStep, endStep, stepBy, stepOf, refused, firstBy};
+ghost use Rattle.job.specs.Parse.{follows, coordinatesIn, coincide, runStep, endStep, stepBy, stepOf, refused, firstBy};
 ghost use Rattle.job.specs.Reading.{answerPlace, jobOf, Reads};
 
 // A run from its first point (x1, y1) to its second (x2, y2). A coordinate is the decimetres plus 1,000,000.
@@ -163,6 +163,13 @@ fn coordinates_in(run: Run) -> bool
     (run.x1 <= 2000000) & (run.y1 <= 2000000) & (run.x2 <= 2000000) & (run.y2 <= 2000000)
 }
 
+// The two points of a run are one.
+pub fn coincide(run: Run) -> bool
+    ensures { λ r. ⌜ r ≡ coincide run ⌝ }
+{
+    (run.x1 == run.x2) & (run.y1 == run.y2)
+}
+
 // A run record at a place, after n runs of which the last has the number last.
 fn run_step(run: Run, at: usize, n: usize, last: u32) -> Step
     ensures { λ r. ⌜ r ≡ runStep at n last run ⌝ }
@@ -175,6 +182,9 @@ fn run_step(run: Run, at: usize, n: usize, last: u32) -> Step
     }
     if !coordinates_in(run) {
         return Step::Refuse(Refusal::OutOfRange(at));
+    }
+    if coincide(run) {
+        return Step::Refuse(Refusal::Coincident(at));
     }
     Step::Next(run)
 }
@@ -269,7 +279,7 @@ fn refusing(refusal: Refusal) -> Reading
     }
 }
 
-// Reads a job: the job, or the first refusal from 3 to 9 that applies.
+// Reads a job: the job, or the first refusal of 3 to 9 and 17 that applies.
 pub fn read(job: &[u8]) -> Reading
     ensures { λ r. ⌜ Reads (now (job .entry)) r ⌝ }
 {

@@ -1,9 +1,9 @@
--- A list whose runs are accepted is the list of runs that rise and are in range, and every such list is accepted.
+-- A list whose runs are accepted is the list of runs that rise, are in range and between two points, and every such list is accepted.
 -- Assumes nothing.
 use Prim.Native.Nat.{ℕ, zero, suc, _+_, _-_, _*_, _<_, _≤_}
 use mathlib.Core.Path.{_≡_, refl, sym, ap, ap₂, _∙_}
 use mathlib.Core.List.{List, [], _∷_, _++_, flatMap}
-use mathlib.Core.Bool.{true, not, _&&_, and-eq-true-iff}
+use mathlib.Core.Bool.{true, false, not, _&&_, and-eq-true-iff}
 use native.Mathlib.Omega.{arith}
 use native.Mathlib.Nat.{add-zero}
 use borrow.Author.Tests.{not-false}
@@ -16,8 +16,9 @@ use Rattle.job.specs.declared.Run.{Run}
 use Rattle.job.specs.declared.Answer.{Answer}
 use Rattle.job.specs.declared.Answer.the-variants.{Accepted, Refused}
 use Rattle.job.specs.Fields.{decimetres}
-use Rattle.job.specs.Written.{InRange}
-use Rattle.job.proofs.Steps.{passed}
+use Rattle.job.specs.Written.{InRange, Coincide}
+use Rattle.job.specs.Parse.{coincide}
+use Rattle.job.proofs.Steps.{passed, coincide-false, apart-tested}
 use Rattle.job.proofs.Rising.{Rising, none, more}
 use Rattle.job_writer.specs.declared.Listed.{Listed}
 use Rattle.job_writer.specs.Listed.{listedAt, runOf, runsFrom, firstOf, numberBefore, follows, inRange, coordinatesIn, runAnswer, runsAnswer}
@@ -44,6 +45,7 @@ pub record Good (last : ℕ) (l : Listed) : Type 0 where
   pub y1-in : Held (l .y1)
   pub x2-in : Held (l .x2)
   pub y2-in : Held (l .y2)
+  pub apart : Coincide (runOf l) → ⊥
 
 -- the four tests of its coordinates
 pub record Ranged (l : Listed) : Type 0 where
@@ -59,14 +61,16 @@ coordinates-true l t =
     let y1 = and-eq-true-iff (inRange (l .x1)) (inRange (l .y1)) .0 (x2 .0) in
     record { x1-in = y1 .0; y1-in = y1 .1; x2-in = x2 .1; y2-in = y2 .1 }
 
--- both tests of a run that is accepted
+-- the three tests of a run that is accepted
 pub run-passed : (list : List ℤ) (i : ℕ) → runAnswer list i ≡ Accepted
     → (follows (numberBefore list i) (listedAt list i .number) ≡ true) × (coordinatesIn (listedAt list i) ≡ true)
+    × (coincide (runOf (listedAt list i)) ≡ false)
 unfolding runAnswer
 run-passed list i e =
     let a = passed (not (follows (numberBefore list i) (listedAt list i .number))) _ _ _ e (refused-accepted _) in
     let b = passed (not (coordinatesIn (listedAt list i))) _ _ _ (a .1) (refused-accepted _) in
-    (not-false _ (a .0), not-false _ (b .0))
+    let c = passed (coincide (runOf (listedAt list i))) _ _ _ (b .1) (refused-accepted _) in
+    (not-false _ (a .0), not-false _ (b .0), c .0)
 
 run-good : (list : List ℤ) (i last : ℕ) → numberBefore list i ≡ pos last → runAnswer list i ≡ Accepted → Good last (listedAt list i)
 run-good list i last h e =
@@ -78,6 +82,7 @@ run-good list i last h e =
       y1-in = in-range-true _ (r .y1-in);
       x2-in = in-range-true _ (r .x2-in);
       y2-in = in-range-true _ (r .y2-in);
+      apart = coincide-false (runOf (listedAt list i)) (t .2);
     }
 
 -- it is in range, as a job holds it
@@ -136,7 +141,7 @@ runs-taken list (suc left) i last h p e =
     let rest = runs-taken list left (suc i) (natAbs (l .number)) (omega arith) (sym (g .number-in .same)) (a .1) in
     let s : i + suc left ≡ suc i + left = omega arith in
     record {
-      up = more (g .number-in .rises) (good-range last l g) (rest .up);
+      up = more (g .number-in .rises) (good-range last l g) (g .apart) (rest .up);
       listed =
           five-drop list i (omega arith)
           ∙ ap₂ {C = List ℤ} (λ a b. a ++ b) (sym (good-five last l g)) (rest .listed ∙ ap (λ n. listOf (runsFrom list left (suc i)) ++ drop (5 * n) list) (sym s));
@@ -174,11 +179,11 @@ stands list rest i r e j =
       y2 = field-drop list _ (5 * i) 4 e j;
     }
 
--- a run in range, above the number before it, is accepted
-listed-accepted : (list : List ℤ) (i last : ℕ) (r : Run) → numberBefore list i ≡ pos last → listedAt list i ≡ asListed r → last < r .number → InRange r
+-- a run in range and between two points, above the number before it, is accepted
+listed-accepted : (list : List ℤ) (i last : ℕ) (r : Run) → numberBefore list i ≡ pos last → listedAt list i ≡ asListed r → last < r .number → InRange r → (Coincide r → ⊥)
     → runAnswer list i ≡ Accepted
 unfolding runAnswer
-listed-accepted list i last r p e up h =
+listed-accepted list i last r p e up h apart =
     let f : follows (numberBefore list i) (listedAt list i .number) ≡ true =
     ap₂ follows p (ap (λ l. l .number) e) ∙ true-follows last (r .number) (h .least) (h .most) up in
     let c : coordinatesIn (listedAt list i) ≡ true =
@@ -189,7 +194,8 @@ listed-accepted list i last r p e up h =
       true-in-range (r .x2) (h .x2-in),
       true-in-range (r .y2) (h .y2-in),
     ) in
-    rw (f, c) refl
+    let d : coincide (runOf (listedAt list i)) ≡ false = ap (λ l. coincide (runOf l)) e ∙ ap coincide (listed-run r) ∙ apart-tested r apart in
+    rw (f, c, d) refl
 
 -- the runs that the list has from index i on
 pub record Back (list : List ℤ) (runs : List Run) (i : ℕ) : Type 0 where
@@ -200,13 +206,13 @@ pub runs-back : (list : List ℤ) (runs : List Run) (i last : ℕ) → numberBef
     → Back list runs i
 unfolding runsFrom runsAnswer flatMap
 runs-back list [] i last p e up = record { accepted = refl; same = refl }
-runs-back list (r ∷ runs) i last p e (more above range rest) =
+runs-back list (r ∷ runs) i last p e (more above range apart rest) =
     let s = stands list (listOf runs) i r e in
     let n : 5 * suc i ≡ 5 * i + 5 = omega arith in
     let d : drop (5 * suc i) list ≡ listOf runs = rw n (sym (drop-drop 5 (5 * i) list) ∙ ap (drop 5) e) in
     let later = runs-back list runs (suc i) (r .number) (ap (λ l. l .number) s) d rest in
     record {
-      accepted = rw (listed-accepted list i last r p s above range) (later .accepted);
+      accepted = rw (listed-accepted list i last r p s above range apart) (later .accepted);
       same = ap₂ {C = List Run} (λ q qs. q ∷ qs) (ap runOf s ∙ listed-run r) (later .same);
     }
 

@@ -8,7 +8,7 @@ use native.Mathlib.Decide.{decLt}
 use borrow.Author.Tests.{lt-ltb, le-ltb, le-leb, ltb-true, leb-true}
 use lib.IntN.{ℤ, pos, negsuc, natAbs, _+ℤ_, _-ℤ_, +ℤ-negℤ-cancel, -ℤ-+ℤ-cancel}
 use lib.Dec.{T, leb, ltb}
-use lib.Signed.{mag, leZ, nonNeg}
+use lib.Signed.{mag, leZ, ltZ, nonNeg}
 use mir.Syntax.{w32}
 use mir.Val.{toZ, ofZ}
 use mir.ValLaws.{toZ-ofZ}
@@ -54,6 +54,11 @@ true-in-range c h = go (decLt c 1000000)
 pub positive : (z : ℤ) → leZ (pos 1) z ≡ true → T (nonNeg z)
 positive (pos n) t = tt
 positive (negsuc n) t = absurd (let z : _≡_ {A = ℕ} 0 1 = cc in omega arith)
+
+-- a run number that follows another, whatever that is, is from 1 on
+pub follows-least : (last z : ℤ) → follows last z ≡ true → leZ (pos 1) z ≡ true
+follows-least last z t =
+    and-eq-true-iff (leZ (pos 1) z) (leZ z (pos 9999)) .0 (and-eq-true-iff (leZ (pos 1) z && leZ z (pos 9999)) (ltZ last z) .0 t .0) .0
 
 -- a number that comes behind a number that is not below 0
 pub record Follows (last : ℕ) (z : ℤ) : Type 0 where

@@ -3,12 +3,12 @@
 use Prim.Native.Nat.{ℕ, _+_, _-_, _*_, _<_, _≤_}
 use mathlib.Core.Path.{_≡_, refl, sym, _∙_}
 use mathlib.Core.List.{List, _++_}
-use mathlib.Core.Bool.{true, _&&_, and-eq-true-iff}
+use mathlib.Core.Bool.{true}
 use native.Mathlib.Omega.{arith}
 use native.Mathlib.Numerals.{add-one}
 use lib.IntN.{ℤ, pos}
 use lib.ListN.{length}
-use lib.Signed.{leZ, ltZ}
+use lib.Signed.{leZ}
 use borrow.Rule.Slice.PartMut.{midOf, putMid}
 use Rattle.fields.specs.Bytes.{Wrote}
 use Rattle.fields.proofs.Over.{Rest, rest-all, rest-next, rest-none}
@@ -16,6 +16,7 @@ use Rattle.job.specs.declared.Answer.the-variants.{Accepted}
 use Rattle.job.specs.Written.{runBytes, runsBytes}
 use Rattle.job.proofs.Accepted.{runs-length}
 use Rattle.job_writer.specs.Listed.{listedAt, runOf, runsFrom, numberBefore, coordinatesIn, runAnswer, runsAnswer}
+use Rattle.job_writer.proofs.Signed.{follows-least}
 use Rattle.job_writer.proofs.Runs.{neither, run-passed, left-more, answers-next, runs-count}
 
 pub record Writing (list : List ℤ) (count : ℕ) (xs ys : List ℕ) (at i : ℕ) : Type 0 where
@@ -44,9 +45,7 @@ module _ (list : List ℤ) (count : ℕ) (xs ys : List ℕ) (at i : ℕ) (w : Wr
   pub next-held : (leZ (pos 1) (listedAt list i .number) ≡ true) × (coordinatesIn (listedAt list i) ≡ true)
   next-held =
       let p = run-passed list i (both .0) in
-      let n = listedAt list i .number in
-      let f = and-eq-true-iff (leZ (pos 1) n && leZ n (pos 9999)) (ltZ (numberBefore list i) n) .0 (p .0) in
-      (and-eq-true-iff (leZ (pos 1) n) (leZ n (pos 9999)) .0 (f .0) .0, p .1)
+      (follows-least (numberBefore list i) (listedAt list i .number) (p .0), p .1)
 
   next-bytes : runsBytes (runsFrom list (count - i) i) ≡ runBytes (runOf (listedAt list i)) ++ runsBytes (runsFrom list (count - (i + 1)) (i + 1))
   unfolding runsFrom runsBytes

@@ -8,8 +8,9 @@ use lib.Dec.{eqb, ltb}
 use lib.IntN.{ℤ, pos, negℤ, natAbs, _+ℤ_}
 use lib.ListN.{length, getD}
 use lib.Signed.{leZ, ltZ}
-use Rattle.refusal.specs.declared.Refusal.the-variants.{ShortBuffer, Cut, WrongNumber, OutOfRange, TooManyRuns}
+use Rattle.refusal.specs.declared.Refusal.the-variants.{ShortBuffer, Cut, WrongNumber, OutOfRange, TooManyRuns, Coincident}
 use Rattle.job.specs.declared.Run.{Run}
+use Rattle.job.specs.Parse.{coincide}
 use Rattle.job.specs.declared.Answer.{Answer}
 use Rattle.job.specs.declared.Answer.the-variants.{Accepted, Refused}
 use Rattle.job_writer.specs.declared.Listed.{Listed}
@@ -67,11 +68,12 @@ inRange c = leZ (negℤ (pos 1000000)) c && leZ c (pos 1000000)
 abbrev pub coordinatesIn : Listed → Bool
 coordinatesIn l = inRange (l .x1) && inRange (l .y1) && inRange (l .x2) && inRange (l .y2)
 
--- run i: 7, then 8, "place being the run's index from 0"
+-- run i: 7, then 8, then 17 (document 02, C-18: "after 8 for that run"), "place being the run's index from 0"; by then its numbers are in their ranges
 unfoldable pub runAnswer : List ℤ → ℕ → Answer
 runAnswer list i =
     cond (not (follows (numberBefore list i) (listedAt list i .number))) (Refused (WrongNumber i))
-    (cond (not (coordinatesIn (listedAt list i))) (Refused (OutOfRange i)) Accepted)
+    (cond (not (coordinatesIn (listedAt list i))) (Refused (OutOfRange i))
+    (cond (coincide (runOf (listedAt list i))) (Refused (Coincident i)) Accepted))
 
 -- so many runs, from index i on: "run by run"
 unfoldable pub runsAnswer : List ℤ → (left i : ℕ) → Answer
@@ -82,7 +84,7 @@ runsAnswer list (suc left) i = firstOf (runAnswer list i) (runsAnswer list left 
 abbrev pub roomAnswer : (count room : ℕ) → Answer
 roomAnswer count room = cond (ltb room (8 + 19 * count)) (Refused ShortBuffer) Accepted
 
--- "The order is 3, 9, then 7 and 8 run by run, then 2". 3: "A list whose length is no multiple of five is refused as 3 with the list's length as place"; 9: "a
+-- "The order is 3, 9, then 7 and 8 run by run, then 2", with 17 after 8. 3: "A list whose length is no multiple of five is refused as 3 with the list's length as place"; 9: "a
 -- 33rd run" (01), whose index is 32.
 unfoldable pub listAnswer : List ℤ → (room : ℕ) → Answer
 listAnswer list room =

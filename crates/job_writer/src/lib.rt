@@ -75,6 +75,28 @@ fn coordinates_in(run: Listed) -> bool
     in_range(run.x1) & in_range(run.y1) & in_range(run.x2) & in_range(run.y2)
 }
 
+// A coordinate plus 1,000,000.
+fn biased_of(c: i32) -> u32
+    requires { ⌜ inRange c ≡ true ⌝ }
+    ensures { λ r. ⌜ r ≡ biased c ⌝ }
+{
+    (c + 1000000) as u32
+}
+
+// A run as a job holds it.
+fn run_of(run: Listed) -> Run
+    requires { ⌜ (leZ (pos 1) (run .number) ≡ true) × (coordinatesIn run ≡ true) ⌝ }
+    ensures { λ r. ⌜ r ≡ runOf run ⌝ }
+{
+    Run {
+        number: run.number as u32,
+        x1: biased_of(run.x1),
+        y1: biased_of(run.y1),
+        x2: biased_of(run.x2),
+        y2: biased_of(run.y2),
+    }
+}
+
 // Whether run i of the list is refused.
 fn run_answer(runs: &[i32], i: usize) -> Answer
     requires { ⌜ 5 * i + 5 ≤ length (now runs) ⌝ }
@@ -86,6 +108,9 @@ fn run_answer(runs: &[i32], i: usize) -> Answer
     }
     if !coordinates_in(run) {
         return Answer::Refused(Refusal::OutOfRange(i));
+    }
+    if job::coincide(run_of(run)) {
+        return Answer::Refused(Refusal::Coincident(i));
     }
     Answer::Accepted
 }
@@ -127,7 +152,7 @@ fn first_of(sooner: Answer, later: Answer) -> Answer
     }
 }
 
-// Whether a list is refused, with a buffer of so many bytes: 3, 9, then 7 and 8 run by run, then 2.
+// Whether a list is refused, with a buffer of so many bytes: 3, 9, then 7, 8 and 17 run by run, then 2.
 pub fn check(runs: &[i32], room: usize) -> Answer
     ensures { λ r. ⌜ r ≡ listAnswer (now (runs .entry)) room ⌝ }
 {
@@ -142,28 +167,6 @@ pub fn check(runs: &[i32], room: usize) -> Answer
     let wrong = runs_answer(runs, count);
     let short = room_answer(count, room);
     first_of(wrong, short)
-}
-
-// A coordinate plus 1,000,000.
-fn biased_of(c: i32) -> u32
-    requires { ⌜ inRange c ≡ true ⌝ }
-    ensures { λ r. ⌜ r ≡ biased c ⌝ }
-{
-    (c + 1000000) as u32
-}
-
-// A run as a job holds it.
-fn run_of(run: Listed) -> Run
-    requires { ⌜ (leZ (pos 1) (run .number) ≡ true) × (coordinatesIn run ≡ true) ⌝ }
-    ensures { λ r. ⌜ r ≡ runOf run ⌝ }
-{
-    Run {
-        number: run.number as u32,
-        x1: biased_of(run.x1),
-        y1: biased_of(run.y1),
-        x2: biased_of(run.x2),
-        y2: biased_of(run.y2),
-    }
 }
 
 fn write_head(out: &mut [u8], number: u32) -> usize

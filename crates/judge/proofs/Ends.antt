@@ -7,11 +7,10 @@ use native.Mathlib.Omega.{arith}
 use lib.Dec.{eqb}
 use lib.ListN.{length, getD}
 use Rattle.network.specs.Lists.{sum, every}
-use Rattle.network.specs.Plane.{Point, Run, distance, _to_}
+use Rattle.network.specs.Plane.{Point, Run, distance, _to_, samePoint}
 use Rattle.network.specs.Grid.{Grid, Rising}
 use Rattle.network.specs.Route.{Route, pieces, piecesFrom, Listed, Vertex, Straight}
 use Rattle.network.specs.Graph.{origin}
-use Rattle.network.specs.Corners.{samePoint}
 use Rattle.network.specs.Steps.{vertex}
 use Rattle.network.proofs.Tests.{and-split, and-join}
 use Rattle.network.proofs.Lanes.{point-path}

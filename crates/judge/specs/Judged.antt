@@ -6,12 +6,11 @@ use Prim.Native.Nat.{ℕ}
 use lib.Dec.{eqb}
 use lib.ListN.{length, getD}
 use Rattle.network.specs.Lists.{sum, any, every}
-use Rattle.network.specs.Plane.{Point, Run, distance}
+use Rattle.network.specs.Plane.{Point, Run, distance, samePoint}
 use Rattle.network.specs.Grid.{Grid}
 use Rattle.network.specs.Hanan.{hanan}
 use Rattle.network.specs.Route.{Route, pieces, lastFrom}
 use Rattle.network.specs.Graph.{runAt, below}
-use Rattle.network.specs.Corners.{samePoint}
 use Rattle.refusal.specs.declared.Refusal.{Refusal}
 use Rattle.refusal.specs.declared.Refusal.the-variants.{
   ShortWork,
@@ -29,6 +28,7 @@ use Rattle.refusal.specs.declared.Refusal.the-variants.{
   Miscounted,
   OtherJob,
   Untrue,
+  Coincident,
 }
 use Rattle.job.specs.declared.Run.{Run as Read}
 use Rattle.plan.specs.declared.Head.{Head}
@@ -108,6 +108,7 @@ ofBook place (NoTurn at) = NoTurn place
 ofBook place (Miscounted at) = Miscounted place
 ofBook place (OtherJob at) = OtherJob place
 ofBook place (Untrue at) = Untrue place
+ofBook place (Coincident at) = Coincident place
 
 -- of the first book or of the second, by what the reader says of it: its trench figure, or its refusal
 unfoldable pub judgementOf : (number : ℕ) (runs : List Read) (place : ℕ) → Parsed → Judgement

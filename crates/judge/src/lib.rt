@@ -81,6 +81,7 @@ fn of_book(refusal: Refusal, place: usize) -> Refusal
         Refusal::Miscounted(_) => Refusal::Miscounted(place),
         Refusal::OtherJob(_) => Refusal::OtherJob(place),
         Refusal::Untrue(_) => Refusal::Untrue(place),
+        Refusal::Coincident(_) => Refusal::Coincident(place),
     }
 }
 

@@ -12,11 +12,10 @@ use borrow.Author.Tests.{ltb-true, lt-ltb}
 use lib.Dec.{ltb}
 use lib.ListN.{length, getD}
 use Rattle.network.specs.Lists.{any, All}
-use Rattle.network.specs.Plane.{Point, Run, _to_}
+use Rattle.network.specs.Plane.{Point, Run, _to_, samePoint}
 use Rattle.network.specs.Grid.{Rising, Grid, Edge}
 use Rattle.network.specs.Route.{Route, piecesFrom, pieces, level, Listed, Vertex, on, lies}
 use Rattle.network.specs.Steps.{Dir, hor, ver, vertex}
-use Rattle.network.specs.Corners.{samePoint}
 use Rattle.network.specs.Pits.{among, amid, passesRow, passesColumn, pitPoints, pitsOf}
 use Rattle.network.specs.Passes.{passes}
 use Rattle.network.proofs.Tests.{and-split, and-join, neither, same-test, true-level, Spans, lies-true, true-lies}

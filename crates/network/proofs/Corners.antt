@@ -3,22 +3,22 @@
 use mathlib.Core.Path.{_≡_, refl, sym, ap, ap₂, _∙_, subst}
 use mathlib.Core.Logic.{⊎-map}
 use mathlib.Core.List.{List, [], _∷_, map}
-use mathlib.Core.Bool.{Bool, true, false, cond, _&&_, _||_, or-assoc, or-false}
+use mathlib.Core.Bool.{Bool, true, false, cond, _&&_, _||_, or-assoc}
 use Prim.Native.Nat.{pred, _+_, _*_}
 use native.Mathlib.Omega.{arith}
 use borrow.Author.Tests.{eqb-true, eq-eqb}
 use lib.Dec.{eqb}
 use Rattle.network.specs.Lists.{any, count, All}
-use Rattle.network.specs.Plane.{Point, Run, _to_}
+use Rattle.network.specs.Plane.{Point, Run, _to_, samePoint}
 use Rattle.network.specs.Grid.{Grid, Edge, len}
 use Rattle.network.specs.Route.{piecesFrom, Route, Vertex, Straight, Manhattan, Routes, on, lies, unionLength, Least}
 use Rattle.network.specs.Excess.{excess}
-use Rattle.network.specs.Corners.{samePoint, straightOn, cornersFrom, corners}
+use Rattle.network.specs.Corners.{straightOn, cornersFrom, corners}
 use Rattle.network.proofs.Tests.{and-split, and-join, or-split, or-join}
 use Rattle.network.proofs.Edges.{OfGrid, edges-cong}
 use Rattle.network.proofs.Monotone.{towards-trans, towards-first, Monotone, monotone, manhattan-of}
 use Rattle.network.proofs.Counting.{counting}
-use Rattle.network.proofs.Joining.{On-line, lies-through, lies-nowhere}
+use Rattle.network.proofs.Joining.{On-line, lies-through}
 
 -- ---- the tests
 
@@ -56,11 +56,7 @@ true-line p q r h =
     (λ t. and-join (eqb (p .y) (q .y)) (eqb (q .y) (r .y)) (eq-eqb (p .y) (q .y) (t .here)) (eq-eqb (q .y) (r .y) (t .there)))
     h)
 
--- the next corner by the outcome of the tests
-pub corner-end : (p q : Point) → samePoint p q ≡ false → cornersFrom p q [] ≡ q ∷ []
-corner-end p q e = ap (λ t. elim t as (λ u. List Point) [ true ↦ [] | false ↦ q ∷ [] ]) e
-
--- where the route goes straight on
+-- the next corner by the outcome of the test, where the route goes straight on
 pub corner-on : (p q r : Point) (l : List Point) → straightOn p q r ≡ true → cornersFrom p q (r ∷ l) ≡ cornersFrom p r l
 corner-on p q r l e = ap (λ t. elim t as (λ u. List Point) [ true ↦ cornersFrom p r l | false ↦ q ∷ cornersFrom q r l ]) e
 
@@ -118,21 +114,9 @@ stays g p q r l k z w h =
 behind : (g : Grid) (p q : Point) (l : List Point) (z : Point) → Walk g p (q ∷ l) z → Walk g q l z
 behind g p q l z w = record { vertices = w .vertices .1; straight = w .straight .1; goes = w .goes .1 }
 
--- a walk that ends where it stands has no corner left
-ended : (g : Grid) (p q : Point) (z : Point) → p ≡ q → Walk g p (q ∷ []) z → Kept g p (q ∷ []) [] z
-ended g p q z s w =
-    record {
-      walk = record { vertices = (w .vertices .0, tt); straight = tt; goes = s ∙ w .goes .1 };
-      same = λ e o. sym (or-false (lies e (p to q)) ∙ ap (λ r. lies e (p to r)) (sym s) ∙ lies-nowhere g e p o);
-    }
-
 -- the corners of a walk are a walk, on the same edges
 corners-keep : (g : Grid) (p q : Point) (l : List Point) (z : Point) → Walk g p (q ∷ l) z → Kept g p (q ∷ l) (cornersFrom p q l) z
-corners-keep g p q [] z w = go (samePoint p q) refl
-  where
-    go : (t : Bool) → samePoint p q ≡ t → Kept g p (q ∷ []) (elim t as (λ u. List Point) [ true ↦ [] | false ↦ q ∷ [] ]) z
-    go true e = ended g p q z (point-true p q e) w
-    go false e = record { walk = w; same = λ f o. refl }
+corners-keep g p q [] z w = record { walk = w; same = λ e o. refl }
 corners-keep g p q (r ∷ l) z w = go (straightOn p q r) refl (corners-keep g p r l z) (corners-keep g q r l z (behind g p q (r ∷ l) z w))
   where
     go : (t : Bool) → straightOn p q r ≡ t → (Walk g p (r ∷ l) z → Kept g p (r ∷ l) (cornersFrom p r l) z) → Kept g q (r ∷ l) (cornersFrom q r l) z

@@ -182,18 +182,18 @@ meets-turned g runs i j = ap₂ (λ (a b : Bool). not a && b) (same-test (eqb j 
     turn : (a b : ℕ) → eqb a b ≡ true → eqb b a ≡ true
     turn a b h = eq-eqb b a (sym (eqb-true a b h))
 
--- a run whose points coincide meets nothing
+-- no edge lies in the box of a single point
 point-inside : (g : Grid) (p : Point) (e : Edge) → OfGrid g e → inside e (p to p) ≡ true → ⊥
 point-inside g p e (across-of i j m n) h = omega (arith, inside-true (acrossAt g i j) (p to p) h, g .columns-rise i m)
 point-inside g p e (upward-of i j m n) h = omega (arith, inside-true (upwardAt g i j) (p to p) h, g .rows-rise j n)
 
--- its box has no edge in it
-pub point-overlap : (g : Grid) (r s : Run) → r .first ≡ r .second → overlap g r s ≡ false
+-- so such a box shares no edge with another
+point-overlap : (g : Grid) (r s : Run) → r .first ≡ r .second → overlap g r s ≡ false
 point-overlap g r s e =
     is-false (overlap g r s) (λ h. let (f, o, i, j) = overlap-edge g r s h in
     point-inside g (r .first) f o (subst (λ q. inside f (r .first to q) ≡ true) (sym e) i))
 
--- so a run that is met is one of the list
+-- what stands past the last run is a point, so a run that is met is one of the list
 pub meets-listed : (g : Grid) (runs : List Run) (c k : ℕ) → meets g runs c k ≡ true → k < length runs
 meets-listed g runs c k h = go (order (length runs) k)
   where

@@ -9,10 +9,9 @@ use borrow.Author.Tests.{ltb-true, lt-ltb}
 use lib.Dec.{eqb, ltb}
 use lib.ListN.{length, getD}
 use Rattle.network.specs.Lists.{All}
-use Rattle.network.specs.Plane.{Point, Run, _to_}
+use Rattle.network.specs.Plane.{Point, Run, _to_, samePoint}
 use Rattle.network.specs.Grid.{Rising}
 use Rattle.network.specs.Route.{Route, piecesFrom, pieces, level}
-use Rattle.network.specs.Corners.{samePoint}
 use Rattle.network.specs.Pits.{unique, amid, passesRow, passesColumn, crossing, crossings, pitPoints, pitsOf}
 use Rattle.network.proofs.Tests.{same-test, eqb-same}
 use Rattle.network.proofs.Lists.{all-flatMap, flatten-map, flatMap-map}

@@ -23,11 +23,10 @@ use borrow.Author.Tests.{ltb-true, lt-ltb}
 use lib.Dec.{ltb}
 use lib.ListN.{length, getD}
 use Rattle.network.specs.Lists.{any, All}
-use Rattle.network.specs.Plane.{Point, Run, _to_}
+use Rattle.network.specs.Plane.{Point, Run, _to_, samePoint}
 use Rattle.network.specs.Grid.{Grid}
 use Rattle.network.specs.Route.{Route, piecesFrom, pieces, level, Vertex, Manhattan, Routes}
 use Rattle.network.specs.Steps.{Dir, hor, ver}
-use Rattle.network.specs.Corners.{samePoint}
 use Rattle.network.specs.Pits.{among, unique, amid, passesRow, passesColumn, crossing, crossings, pitPoints, pitsOf}
 use Rattle.network.specs.Passes.{passes, Crossed}
 use Rattle.network.proofs.Tests.{and-split, and-join, or-split, or-join, same-test, Level, level-true}

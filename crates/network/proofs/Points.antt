@@ -7,11 +7,10 @@ use Prim.Native.Nat.{ℕ, _+_, _*_, _≤_, _<_}
 use native.Mathlib.Omega.{arith}
 use lib.ListN.{length}
 use Rattle.network.specs.Lists.{All}
-use Rattle.network.specs.Plane.{Point}
+use Rattle.network.specs.Plane.{Point, samePoint}
 use Rattle.network.specs.Grid.{Grid}
 use Rattle.network.specs.Route.{Vertex}
 use Rattle.network.specs.Steps.{vertex}
-use Rattle.network.specs.Corners.{samePoint}
 use Rattle.network.specs.Pits.{among, unique}
 use Rattle.network.proofs.Tests.{same-test, is-false}
 use Rattle.network.proofs.Rising.{one-index}

@@ -3,7 +3,7 @@
 -- Each piece of the route is a number of unit steps along one line. Of these steps only the first can turn, and it turns exactly where the piece
 -- does: the route comes to the piece along one line, and a step and a piece that start at one point in one direction leave that line together. So
 -- the unit steps may stand for the piece, one piece after the other, and no corner is lost or won.
-use mathlib.Core.Path.{_≡_, refl, sym, ap, _∙_, subst, subst₂}
+use mathlib.Core.Path.{_≡_, refl, sym, ap, ap₂, _∙_, subst, subst₂}
 use mathlib.Core.Logic.{inl, inr}
 use mathlib.Core.List.{List, [], _∷_}
 use mathlib.Core.Bool.{Bool, true, false}
@@ -16,7 +16,7 @@ use Rattle.network.specs.Plane.{Point, Run, _to_}
 use Rattle.network.specs.Grid.{Rising, Grid}
 use Rattle.network.specs.Route.{piecesFrom, Route, Vertex, Straight, Manhattan}
 use Rattle.network.specs.Steps.{Dir, hor, ver, steps, Lane, forth, back, extent, at, Fits, spot, Frame, Complete, drawFrom, drawn}
-use Rattle.network.specs.Corners.{samePoint, straightOn, cornersFrom, corners}
+use Rattle.network.specs.Corners.{straightOn, cornersFrom, corners}
 use Rattle.network.proofs.Numbers.{Between}
 use Rattle.network.proofs.Rising.{index-le}
 use Rattle.network.proofs.Monotone.{Towards, Monotone, monotone}
@@ -37,19 +37,9 @@ start-on : (p q : Point) → Straight (p to q) → straightOn p p q ≡ true
 start-on p q (inl e) = true-line p p q (inl (record { here = refl; there = e }))
 start-on p q (inr e) = true-line p p q (inr (record { here = refl; there = e }))
 
--- a point is the same as itself
-same-self : (p : Point) → samePoint p p ≡ true
-unfolding samePoint
-same-self p = rw (eq-eqb (p .x) (p .x) refl, eq-eqb (p .y) (p .y) refl)
-
--- a route that never moves has no corner behind its first
-no-corner : (p : Point) → cornersFrom p p [] ≡ []
-no-corner p = ap (λ t. elim t as (λ u. List Point) [ true ↦ [] | false ↦ p ∷ [] ]) (same-self p)
-
 -- so the corners of a route are its first point and those behind it
-corners-start : (p : Point) (l : List Point) → All Straight (piecesFrom p l) → corners (p ∷ l) ≡ p ∷ cornersFrom p p l
-corners-start p [] s = ap (λ (t : List Point). p ∷ t) (sym (no-corner p))
-corners-start p (q ∷ l) s = ap (λ (t : List Point). p ∷ t) (sym (corner-on p p q l (start-on p q (s .0))))
+corners-start : (p q : Point) (l : List Point) → Straight (p to q) → corners (p ∷ q ∷ l) ≡ p ∷ cornersFrom p p (q ∷ l)
+corners-start p q l s = ap (λ (t : List Point). p ∷ t) (sym (corner-on p p q l (start-on p q s)))
 
 -- ---- one step of a piece
 
@@ -221,11 +211,17 @@ module _ (g : Grid) (X Y : Lane) (fx : Fits (g .columns) X) (fy : Fits (g .rows)
 
 -- ---- the law
 
--- the pieces of a step list are straight
-drawn-pieces : (g : Grid) (X Y : Lane) (i j : ℕ) (s : List Dir) → All Straight (piecesFrom (spot g X Y i j) (drawFrom g X Y i j s))
-drawn-pieces g X Y i j [] = tt
-drawn-pieces g X Y i j (hor ∷ s) = (inr refl, drawn-pieces g X Y (suc i) j s)
-drawn-pieces g X Y i j (ver ∷ s) = (inl refl, drawn-pieces g X Y i (suc j) s)
+-- a run's two points are apart
+abbrev pub Moves : Run → Type 0
+Moves run = run .first ≡ run .second → ⊥
+
+-- so a step list that passes the whole frame has a step, and the corners of what it draws are the first point and those behind it
+drawn-start : (g : Grid) (run : Run) (X Y : Lane) → Frame g run X Y → Moves run → (s : List Dir) → 0 + steps hor s ≡ extent X → 0 + steps ver s ≡ extent Y
+    → corners (drawn g X Y s) ≡ spot g X Y 0 0 ∷ cornersFrom (spot g X Y 0 0) (spot g X Y 0 0) (drawFrom g X Y 0 0 s)
+unfolding steps
+drawn-start g run X Y f moves [] a b = absurd (moves (sym (f .from) ∙ ap₂ (spot g X Y) a b ∙ f .upto))
+drawn-start g run X Y f moves (hor ∷ s) a b = corners-start (spot g X Y 0 0) (spot g X Y 1 0) (drawFrom g X Y 1 0 s) (inr refl)
+drawn-start g run X Y f moves (ver ∷ s) a b = corners-start (spot g X Y 0 0) (spot g X Y 0 1) (drawFrom g X Y 0 1 s) (inl refl)
 
 -- a step list that passes the whole frame, with the corners of a route
 pub record SameTurns (g : Grid) (X Y : Lane) (route : Route) : Type 0 where
@@ -234,17 +230,18 @@ pub record SameTurns (g : Grid) (X Y : Lane) (route : Route) : Type 0 where
   pub same : corners (drawn g X Y list) ≡ corners route
 
 -- every Manhattan route of a run has one in the run's frame
-pub to-turns : (g : Grid) (run : Run) (X Y : Lane) → Frame g run X Y → (route : Route) → Manhattan g run route → SameTurns g X Y route
-to-turns g run X Y f [] m = absurd (m .starts)
-to-turns g run X Y f (p ∷ l) m =
+pub to-turns : (g : Grid) (run : Run) (X Y : Lane) → Frame g run X Y → Moves run → (route : Route) → Manhattan g run route → SameTurns g X Y route
+to-turns g run X Y f moves [] m = absurd (m .starts)
+to-turns g run X Y f moves (p ∷ []) m = absurd (moves (sym (m .starts) ∙ m .ends))
+to-turns g run X Y f moves (p ∷ q ∷ l) m =
     let e : spot g X Y 0 0 ≡ p = f .from ∙ sym (m .starts) in
-    let s = steps-from g X Y (f .columns-fit) (f .rows-fit) (run .second) (f .upto) 0 0 p l e (omega arith) (omega arith) (m .vertices) (m .straight) (monotone p l m) in
+    let s = steps-from g X Y (f .columns-fit) (f .rows-fit) (run .second) (f .upto) 0 0 p (q ∷ l) e (omega arith) (omega arith) (m .vertices) (m .straight) (monotone p (q ∷ l) m) in
     record {
       list = s .list;
       complete = record { all-columns = omega (arith, s .all-columns); all-rows = omega (arith, s .all-rows) };
       same =
-          corners-start (spot g X Y 0 0) (drawFrom g X Y 0 0 (s .list)) (drawn-pieces g X Y 0 0 (s .list))
+          drawn-start g run X Y f moves (s .list) (s .all-columns) (s .all-rows)
           ∙ ap (λ (t : List Point). spot g X Y 0 0 ∷ t) (s .same (spot g X Y 0 0) (inl refl))
-          ∙ ap (λ (o : Point). o ∷ cornersFrom o o l) e
-          ∙ sym (corners-start p l (m .straight));
+          ∙ ap (λ (o : Point). o ∷ cornersFrom o o (q ∷ l)) e
+          ∙ sym (corners-start p q l (m .straight .0));
     }

@@ -4,14 +4,14 @@ use mathlib.Core.List.{List, [], _∷_, flatten, flatMap, List·Memᴰ·head as 
 use mathlib.Core.Bool.{false}
 use Prim.Native.Nat.{ℕ, _≤_}
 use native.Mathlib.Omega.{arith}
-use Rattle.network.specs.Plane.{Point, Run, _to_, gap, distance}
+use Rattle.network.specs.Plane.{Point, Run, _to_, gap, distance, samePoint}
 use Rattle.network.specs.Grid.{len, edges, spans, inside}
 use Rattle.network.specs.Hanan.{hanan}
 use Rattle.network.specs.Distinct.{insert, distinct}
 use Rattle.network.specs.Route.{Route, level, lies, Manhattan, Routes, unionLength, Least}
 use Rattle.network.specs.Graph.{overlap, meets, below, degree, isCentre, centres}
 use Rattle.network.specs.Excess.{excess}
-use Rattle.network.specs.Corners.{samePoint, straightOn, corners}
+use Rattle.network.specs.Corners.{straightOn, corners}
 use Rattle.network.specs.Pits.{unique, amid, passesRow, passesColumn, crossing, crossings, pitPoints, pitsOf}
 use Rattle.network.specs.Slopes.{flipped, slopes}
 use Rattle.network.specs.Boxes.{within}
@@ -215,19 +215,6 @@ three-equal = refl
 two-equal : jobCentres (run 0 0 3 4 ∷ run 0 0 3 4 ∷ []) 2 ≡ 0 ∷ 1 ∷ []
 unfolding centres isCentre meets overlap edges distinct insert inside spans
 two-equal = refl
-
--- a single point is a star alone, with no edge; two equal points are none
-point : jobCentres (run 5 5 5 5 ∷ []) 1 ≡ 0 ∷ []
-unfolding centres isCentre meets overlap edges distinct insert inside spans
-point = refl
-
-point-trench : unionLength (hanan (run 5 5 5 5 ∷ [])) ((at 5 5 ∷ []) ∷ []) ≡ 0
-unfolding unionLength edges distinct insert lies level spans len
-point-trench = refl
-
-two-points : jobCentres (run 5 5 5 5 ∷ run 5 5 5 5 ∷ []) 2 ≡ []
-unfolding centres isCentre meets overlap edges distinct insert inside spans
-two-points = refl
 
 -- (0,0)-(3,0); (2,0)-(5,0): straight runs that overlap
 line-trench : unionLength (hanan (run 0 0 3 0 ∷ run 2 0 5 0 ∷ [])) ((at 0 0 ∷ at 3 0 ∷ []) ∷ (at 2 0 ∷ at 5 0 ∷ []) ∷ []) ≡ 5

@@ -7,9 +7,8 @@ use Prim.Native.Nat.{ℕ}
 use lib.ListN.{length}
 use lib.Dec.{ltb}
 use Rattle.network.specs.Lists.{any}
-use Rattle.network.specs.Plane.{Point, Run}
+use Rattle.network.specs.Plane.{Point, Run, samePoint}
 use Rattle.network.specs.Route.{Route, pieces, level}
-use Rattle.network.specs.Corners.{samePoint}
 
 -- p is one of the points
 abbrev pub among : Point → List Point → Bool

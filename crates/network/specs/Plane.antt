@@ -1,9 +1,14 @@
 -- Points, runs and the distance: "the x distance plus the y distance" (01, Routes and sharing; d in 000, 2.1).
+use mathlib.Core.Bool.{Bool, _&&_}
 use Prim.Native.Nat.{ℕ, _+_, _-_}
+use lib.Dec.{eqb}
 
 pub record Point : Type 0 where
   pub x : ℕ
   pub y : ℕ
+
+unfoldable pub samePoint : Point → Point → Bool
+samePoint p q = eqb (p .x) (q .x) && eqb (p .y) (q .y)
 
 -- a run (01; a terminal pair in 000, 2.1): its first point and its second
 pub record Run : Type 0 where

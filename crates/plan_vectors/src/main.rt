@@ -275,18 +275,19 @@ fn job_seven() {
     show(head, &numbers, &meets, &centres, routes, 3, &columns, &rows);
 }
 
-// One run whose points coincide, at the ends of the ranges.
-fn one_point() {
-    let columns = [0u32; 64];
+// One run, from end to end of the ranges.
+fn one_run() {
+    let mut columns = [0u32; 64];
+    columns[1] = 2000000;
     let rows = [2000000u32; 64];
     let numbers = [9999u32; 32];
     let meets = [0u32; 32];
-    let routes = [route_of(b"", 0, 0, true, true); 32];
+    let routes = [route_of(b"r", 0, 0, true, true); 32];
     let head = Head {
         grouped: true,
         job: 4294967295,
         runs: 1,
-        trench: 0,
+        trench: 2000000,
         saved: 0,
         pits: 0,
         last: 1,
@@ -449,7 +450,7 @@ fn crossings() {
 
 fn main() {
     job_seven();
-    one_point();
+    one_run();
     no_runs();
     all_ways();
     longest();

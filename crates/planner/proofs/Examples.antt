@@ -1,7 +1,7 @@
 -- The surveyed examples and a blank job hold of the definitions, and job 7 of the listing and every blank job have one least plan: by tests that are
 -- computed over all the ways to lay a job's routes.
 --
--- A job that passes the tests of the reader is well formed, so reading its bytes gives it back and the verdict is by its groups. No way to lay its
+-- A job that passes the tests of the reader is well formed, so reading its bytes gives it back and the verdict is by its groups; a job that is refused is read. No way to lay its
 -- routes is shorter than the trench figure, and those of that length pass what else is given (pits; for job 7 the corners themselves): so do all
 -- least plans. The other figures follow from the corners and the runs.
 use mathlib.Core.Path.{_≡_, refl, ap, ap₂, _∙_, subst}
@@ -13,25 +13,30 @@ use borrow.Author.Tests.{leb-true, ltb-true, eqb-true, not-true}
 use lib.Dec.{eqb, leb}
 use lib.ListN.{length, getD, drop}
 use Rattle.network.specs.Lists.{sum, every, All}
-use Rattle.network.specs.Plane.{Point, gap, distance}
+use Rattle.network.specs.Plane.{Point, gap, distance, samePoint}
 use Rattle.network.specs.Grid.{len, edges, spans, inside}
 use Rattle.network.specs.Distinct.{insert, distinct}
 use Rattle.network.specs.Hanan.{hanan}
 use Rattle.network.specs.Route.{Route, level, lies, unionLength}
 use Rattle.network.specs.Graph.{overlap, meets, degree, isCentre, centres}
 use Rattle.groups.specs.Groups.{reached, grown, spread, groupOf, lowest, heads, groupCount, inStar, allStars, centreOf}
-use Rattle.network.specs.Corners.{samePoint, straightOn, corners}
+use Rattle.network.specs.Corners.{straightOn, corners}
 use Rattle.network.proofs.Tests.{and-split}
 use Rattle.network.proofs.Corners.{point-true}
 use Rattle.network.proofs.Hanan.{hanan-all}
 use Rattle.network.proofs.Choices.{ways, indexIn, laneOf, routesOf, inFront, choices, LeastAre, leastTest, least-tested}
 use Rattle.network.specs.Pits.{unique, amid, passesRow, passesColumn, crossing, crossings, pitPoints, pitsOf}
 use Rattle.job.specs.declared.Run.{Run as Read}
+use Rattle.refusal.specs.declared.Refusal.{Refusal}
 use Rattle.refusal.specs.declared.Refusal.the-variants.{NoStar}
-use Rattle.job.specs.Parse.{Parsed, accepted, refused, follows, coordinatesIn}
-use Rattle.job.specs.Written.{InRange, WellFormed, bytesOf}
+use Rattle.refusal.specs.Refusal.{refusalNumber, refusalPlace}
+use Rattle.refusal.proofs.Numbers.{same-refusal}
+use Rattle.job.specs.Records.{decoded, recordOf}
+use Rattle.job.specs.Parse.{Parsed, accepted, refused, follows, coordinatesIn, coincide, runStep, endStep, stepBy, readFrom}
+use Rattle.job.specs.Written.{bytes2, runsBytes, bytesOf, InRange, WellFormed}
+use Rattle.job.proofs.Steps.{coincide-false}
 use Rattle.job.proofs.Rising.{Rising, none, more, rising-well-formed}
-use Rattle.job.proofs.Written.{written-read}
+use Rattle.job.proofs.Written.{head-read, written-read}
 use Rattle.plan.specs.declared.Head.{Head}
 use Rattle.plan.specs.Records.{headRecord, endRecord}
 use Rattle.plan.specs.Plan.{Entry, bookBytes, entriesFrom, headOf, meetsOf, centreFigure, drawnBytes, planBytes}
@@ -39,15 +44,16 @@ use Rattle.planner.specs.Verdict.{areStars, judged, verdict}
 use Rattle.planner.specs.Call.{runsOf, numbersOf, Said, gives}
 use Rattle.planner.specs.Figures.{planHead, planEntries}
 use Rattle.planner.specs.Outcome.{Outcome}
-use Rattle.planner.specs.Examples.{Figures, refused-11, figures, figures-pits, Example, examples, HasVerdict, LeastOf, HoldsOf, Holds, job7Runs, job7Head, job7Entries, blankHead, HasOnePlan}
+use Rattle.planner.specs.Examples.{Figures, refused-with, figures, figures-pits, Example, examples, HasVerdict, LeastOf, HoldsOf, Holds, job7Runs, job7Head, job7Entries, blankHead, HasOnePlan}
 use Rattle.planner.proofs.Verdicts.{enough}
+use Rattle.planner.proofs.Fits.{runs-move}
 
 -- ---- well formed, by a test
 
 -- each run passes the reader's tests, and the numbers rise from above `last`
 rises : (last : ℕ) → List Read → Bool
 rises last [] = true
-rises last (r ∷ runs) = follows last (r .number) && coordinatesIn r && rises (r .number) runs
+rises last (r ∷ runs) = follows last (r .number) && coordinatesIn r && not (coincide r) && rises (r .number) runs
 
 -- at most 32 of them
 wellTest : List Read → Bool
@@ -77,10 +83,11 @@ rises-true : (last : ℕ) (runs : List Read) → rises last runs ≡ true → Ri
 unfolding rises
 rises-true last [] h = none
 rises-true last (r ∷ runs) h =
-    let (a, rest) = and-split (follows last (r .number) && coordinatesIn r) _ h in
+    let (b, rest) = and-split (follows last (r .number) && coordinatesIn r && not (coincide r)) _ h in
+    let (a, n) = and-split (follows last (r .number) && coordinatesIn r) _ b in
     let (f, c) = and-split (follows last (r .number)) _ a in
     let (up, range) = coordinates-true last r f c in
-    more up range (rises-true (r .number) runs rest)
+    more up range (coincide-false r (not-true (coincide r) n)) (rises-true (r .number) runs rest)
 
 -- a job that passes the test is well formed, under any number
 well-true : (number : ℕ) (runs : List Read) → number < 2 ^ 32 → wellTest runs ≡ true → WellFormed number runs
@@ -89,11 +96,10 @@ well-true number runs f h =
     let (most, up) = and-split (leb (length runs) 32) _ h in
     rising-well-formed number runs f (leb-true (length runs) 32 most) (rises-true 0 runs up)
 
--- the verdict on a well-formed job is by its groups
-verdict-by : (number : ℕ) (runs : List Read) → WellFormed number runs → (b : Bool) → areStars (runsOf runs) ≡ b
-    → HasVerdict number runs (cond b (accepted number runs) (refused NoStar))
+-- a well-formed job whose groups are stars is accepted
+accepted-by : (number : ℕ) (runs : List Read) → WellFormed number runs → areStars (runsOf runs) ≡ true → HasVerdict number runs (accepted number runs)
 unfolding judged
-verdict-by number runs w b e work out h k =
+accepted-by number runs w e work out h k =
     enough (bytesOf number runs) work out h k ∙ ap judged (written-read number runs w) ∙ ap (λ t. cond t (accepted number runs) (refused NoStar)) e
 
 -- ---- a row, by a test
@@ -104,14 +110,19 @@ planTest runs trench saved t =
     areStars (runsOf runs)
     && (leastTest (hanan (runsOf runs)) (runsOf runs) trench t && eqb (trench + saved) (sum distance (runsOf runs)))
 
--- the test of what a row says, and the whole test of a row
-testOf : List Read → Figures → Bool
-testOf runs refused-11 = not (areStars (runsOf runs))
-testOf runs (figures trench saved) = planTest runs trench saved (λ c. true)
-testOf runs (figures-pits trench saved pits) = planTest runs trench saved (λ c. eqb (pitsOf c) pits)
+-- a verdict is this refusal
+isRefused : Refusal → Parsed → Bool
+isRefused x (accepted number runs) = false
+isRefused x (refused y) = eqb (refusalNumber y) (refusalNumber x) && eqb (refusalPlace y) (refusalPlace x)
 
-test : Example → Bool
-test e = wellTest (e .runs) && testOf (e .runs) (e .outcome)
+-- the test of what a row says of the job with this number: of a refusal, that reading on behind the head comes to it
+testOf : ℕ → List Read → Figures → Bool
+testOf number runs (refused-with x) = isRefused x (judged (readFrom 33 number 5 0 0 (runsBytes runs ++ (0x5A ∷ bytes2 (length runs)))))
+testOf number runs (figures trench saved) = wellTest runs && planTest runs trench saved (λ c. true)
+testOf number runs (figures-pits trench saved pits) = wellTest runs && planTest runs trench saved (λ c. eqb (pitsOf c) pits)
+
+test : ℕ → Example → Bool
+test number e = testOf number (e .runs) (e .outcome)
 
 -- what the test of a plan says
 record Tested (runs : List Read) (trench saved : ℕ) (t : List Route → Bool) : Type 0 where
@@ -120,32 +131,43 @@ record Tested (runs : List Read) (trench saved : ℕ) (t : List Route → Bool) 
   total : trench + saved ≡ sum distance (runsOf runs)
 
 -- a job that passes the test has these plans
-plan-true : (runs : List Read) (trench saved : ℕ) (t : List Route → Bool) → planTest runs trench saved t ≡ true → Tested runs trench saved t
+plan-true : (runs : List Read) → wellTest runs ≡ true → (trench saved : ℕ) (t : List Route → Bool) → planTest runs trench saved t ≡ true → Tested runs trench saved t
 unfolding planTest
-plan-true runs trench saved t h =
+plan-true runs w trench saved t h =
     let (a, k) = and-split (areStars (runsOf runs)) _ h in
     let (b, c) = and-split (leastTest (hanan (runsOf runs)) (runsOf runs) trench t) _ k in
     record {
       stars = a;
-      least = least-tested (hanan (runsOf runs)) (runsOf runs) (hanan-all (runsOf runs)) trench t b;
+      least = least-tested (hanan (runsOf runs)) (runsOf runs) (hanan-all (runsOf runs)) (runs-move runs (well-true 0 runs (omega arith) w .apart)) trench t b;
       total = eqb-true (trench + saved) (sum distance (runsOf runs)) c;
     }
 
--- a row that passes its test holds
-sound : (runs : List Read) (o : Figures) → wellTest runs ≡ true → testOf runs o ≡ true → HoldsOf runs o
+-- a verdict that passes the test is the refusal
+refused-true : (x : Refusal) (v : Parsed) → isRefused x v ≡ true → v ≡ refused x
+unfolding isRefused
+refused-true x (accepted number runs) h = absurd (false≢true h)
+refused-true x (refused y) h =
+    let (n, p) = and-split (eqb (refusalNumber y) (refusalNumber x)) _ h in
+    ap refused (same-refusal y x (eqb-true _ _ n) (eqb-true _ _ p))
+
+-- a row that passes its test under every number holds
+sound : (runs : List Read) (o : Figures) → ((number : ℕ) → testOf number runs o ≡ true) → HoldsOf runs o
 unfolding testOf
-sound runs refused-11 w h = λ number f. verdict-by number runs (well-true number runs f w) false (not-true (areStars (runsOf runs)) h)
-sound runs (figures trench saved) w h =
-    let p = plan-true runs trench saved (λ c. true) h in
+sound runs (refused-with x) h = λ number f work out words bytes.
+    enough (bytesOf number runs) work out words bytes ∙ ap judged (head-read number runs f) ∙ refused-true x _ (h number)
+sound runs (figures trench saved) h =
+    let (w, t) = and-split (wellTest runs) _ (h 0) in
+    let p = plan-true runs w trench saved (λ c. true) t in
     record {
-      accepts = λ number f. verdict-by number runs (well-true number runs f w) true (p .stars);
+      accepts = λ number f. accepted-by number runs (well-true number runs f w) (p .stars);
       some = p .least .some;
       says = λ number routes l. (p .least .union-is routes l, omega (arith, p .least .union-is routes l, p .total));
     }
-sound runs (figures-pits trench saved pits) w h =
-    let p = plan-true runs trench saved (λ c. eqb (pitsOf c) pits) h in
+sound runs (figures-pits trench saved pits) h =
+    let (w, t) = and-split (wellTest runs) _ (h 0) in
+    let p = plan-true runs w trench saved (λ c. eqb (pitsOf c) pits) t in
     record {
-      accepts = λ number f. verdict-by number runs (well-true number runs f w) true (p .stars);
+      accepts = λ number f. accepted-by number runs (well-true number runs f w) (p .stars);
       some = p .least .some;
       says = λ number routes l. (
         p .least .union-is routes l,
@@ -155,21 +177,21 @@ sound runs (figures-pits trench saved pits) w h =
     }
 
 -- and a table whose rows all pass
-all-sound : (l : List Example) → every test l ≡ true → All Holds l
+all-sound : (l : List Example) → ((number : ℕ) → every (test number) l ≡ true) → All Holds l
 unfolding test
 all-sound [] h = tt
-all-sound (e ∷ l) h =
-    let (a, k) = and-split _ _ h in
-    let (w, t) = and-split _ _ a in
-    (sound (e .runs) (e .outcome) w t, all-sound l k)
+all-sound (e ∷ l) h = (
+  sound (e .runs) (e .outcome) (λ number. and-split (test number e) _ (h number) .0),
+  all-sound l (λ number. and-split (test number e) _ (h number) .1),
+)
 
 -- ---- the theorem
 
 -- every row of the table holds
 pub examples-hold : All Holds examples
-unfolding test testOf wellTest rises planTest leastTest choices inFront routesOf ways laneOf indexIn samePoint straightOn unionLength lies level len
+unfolding test testOf isRefused judged readFrom stepBy runStep endStep recordOf decoded runsBytes wellTest rises planTest leastTest choices inFront routesOf ways laneOf indexIn samePoint straightOn unionLength lies level len
     allStars inStar groupOf spread grown reached centres isCentre meets overlap edges inside spans distinct insert gap distance pitsOf pitPoints crossings crossing passesRow passesColumn amid unique flatten flatMap
-examples-hold = all-sound examples refl
+examples-hold = all-sound examples (λ number. refl)
 
 -- ---- job 7 of the listing
 
@@ -218,7 +240,7 @@ one-plan : (number : ℕ) (runs : List Read) (head : Head) (entries : List Entry
     → HasOnePlan number runs head entries
 unfolding planBytes drawnBytes
 one-plan number runs head entries f w h d e =
-    let p = plan-true runs (head .trench) (head .saved) (λ c. sameRoutes c (cornersIn entries)) h in
+    let p = plan-true runs w (head .trench) (head .saved) (λ c. sameRoutes c (cornersIn entries)) h in
     let c : (routes : List Route) → LeastOf runs routes → map corners routes ≡ cornersIn entries
     = λ routes l. routes-true (map corners routes) (cornersIn entries) (p .least .passes routes l) in
     let a : (routes : List Route) → LeastOf runs routes → planHead number runs routes ≡ head
@@ -226,7 +248,7 @@ one-plan number runs head entries f w h d e =
     let b : (routes : List Route) → LeastOf runs routes → planEntries runs routes ≡ entries
     = λ routes l. ap (entriesFrom (λ i. getD (numbersOf runs) i 0) (meetsOf (runsOf runs)) (centreFigure (numbersOf runs) (runsOf runs)) 0) (c routes l) ∙ e in
     record {
-      accepts = verdict-by number runs (well-true number runs f w) true (p .stars);
+      accepts = accepted-by number runs (well-true number runs f w) (p .stars);
       some = p .least .some;
       corners-are = c;
       head-is = a;

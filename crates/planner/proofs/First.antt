@@ -66,7 +66,7 @@ module _ (job : List ℕ) (words bytes : ℕ) (b : Bytes job) where
       not-first y (in-bytes a) s = omega (arith, one-stage job y a)
       not-first NoStar (no-star j n) s = omega arith
 
-  -- 3 to 9
+  -- 3 to 9, and 17
   first-in : 16384 ≤ words → 40960 ≤ bytes → (x : Refusal) → parse job ≡ refused x → FirstOf (Applies job words bytes) x
   first-in h k x e =
       let f = first-applies job x .0 e in

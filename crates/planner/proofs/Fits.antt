@@ -1,5 +1,5 @@
 -- The figures and the corners of a well-formed job's plans fit their fields, so that a plan's bytes determine them.
-use mathlib.Core.Path.{_≡_, refl}
+use mathlib.Core.Path.{_≡_, refl, ap}
 use mathlib.Core.List.{List, [], _∷_, map}
 use Prim.Native.Nat.{ℕ, zero, suc, _+_, _*_, _≤_, _<_}
 use native.Mathlib.Omega.{arith}
@@ -12,6 +12,7 @@ use Rattle.network.specs.Graph.{meets, degree}
 use Rattle.groups.proofs.Groups.{groups-most}
 use Rattle.network.specs.Corners.{corners}
 use Rattle.network.proofs.Counting.{counting}
+use Rattle.network.proofs.Turns.{Moves}
 use Rattle.network.proofs.Corners.{corners-routes}
 use Rattle.network.proofs.Hanan.{distinct-listed}
 use Rattle.grid.proofs.Insert.{length-distinct}
@@ -19,7 +20,7 @@ use Rattle.network.proofs.Sums.{count-le}
 use Rattle.network.specs.Pits.{pitsOf}
 use Rattle.network.proofs.Pits.{routes-vertices, pits-few}
 use Rattle.job.specs.declared.Run.{Run as Read}
-use Rattle.job.specs.Written.{noRun, InRange, WellFormed}
+use Rattle.job.specs.Written.{noRun, InRange, Coincide, WellFormed}
 use Rattle.plan.specs.Plan.{headOf, meetsOf}
 use Rattle.plan.specs.Fits.{PointIn, HeadFits}
 use Rattle.planner.specs.Call.{runOf, runsOf, numbersOf}
@@ -30,6 +31,11 @@ AllIn l = (k : ℕ) → k < length l → InRange (getD l k noRun)
 
 tail-in : (r : Read) (l : List Read) → AllIn (r ∷ l) → AllIn l
 tail-in r l h k i = h (suc k) (omega arith)
+
+-- each run has two points
+pub runs-move : (l : List Read) → ((k : ℕ) → k < length l → Coincide (getD l k noRun) → ⊥) → All Moves (runsOf l)
+runs-move [] h = tt
+runs-move (r ∷ l) h = (λ e. h 0 (omega arith) (ap (λ p. p .x) e, ap (λ p. p .y) e), runs-move l (λ k i. h (suc k) (omega arith)))
 
 -- ---- lines
 

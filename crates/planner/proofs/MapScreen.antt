@@ -20,10 +20,10 @@ use Rattle.planner.specs.declared.Answer.the-variants.{Planned, Refused}
 use Rattle.planner.specs.Verdict.{judged, verdict}
 use Rattle.planner.specs.Call.{runOf, runsOf, numbersOf, planOf, Said, gives, said, codeOf}
 use Rattle.planner.specs.Outcome.{Outcome, MapOutcome}
-use Rattle.planner.proofs.Fits.{few-lines}
+use Rattle.planner.proofs.Fits.{runs-move, few-lines}
 use Rattle.planner.proofs.Verdicts.{no-plan, short-plan}
 use Rattle.planner.proofs.Stages.{decided}
-use Rattle.planner.proofs.Stars.{accepted-few}
+use Rattle.planner.proofs.Stars.{job-star}
 use Rattle.planner.proofs.Minus.{minus-fits}
 
 -- no plan exceeds 36,886 bytes
@@ -35,8 +35,9 @@ plan-short job out out′ n b p = go (judged (parse job)) refl p
 
     go : (v : Parsed) → judged (parse job) ≡ v → Outcome v out (gives n) out′ → n ≤ 36886
     go (accepted number runs) e q =
-        let l = few-lines runs (accepted-few job number runs b e) in
-        let m = plan-most number (numbersOf runs) (runsOf runs) (q .routes) (omega (arith, length-map runs runOf, accepted-few job number runs b e)) (l .0) (l .1) (q .least .are-routes) in
+        let w = job-star job b number runs e .0 in
+        let l = few-lines runs (w .most) in
+        let m = plan-most number (numbersOf runs) (runsOf runs) (q .routes) (omega (arith, length-map runs runOf, w .most)) (l .0) (l .1) (runs-move runs (w .apart)) (q .least .are-routes) in
         subst (λ k. k ≤ 36886) (sym (same-length n (length (planOf number runs (q .routes))) (q .says))) m
     go (refused x) e q = absurd (no-plan n (refusalNumber x) (refusalPlace x) (q .says))
 

@@ -3,9 +3,8 @@ use mathlib.Core.Path.{_≡_, refl, sym, _∙_, subst}
 use mathlib.Core.Bool.{Bool, true, false, cond, true≢false}
 use mathlib.Core.Logic.{_⊎_, inl, inr}
 use mathlib.Core.List.{List}
-use Prim.Native.Nat.{ℕ, _≤_}
+use Prim.Native.Nat.{ℕ}
 use native.Mathlib.Omega.{arith}
-use lib.ListN.{length}
 use Rattle.network.specs.Plane.{Run}
 use Rattle.network.specs.Hanan.{hanan}
 use Rattle.groups.proofs.Runs.{runs-by-chains}
@@ -76,10 +75,6 @@ module _ (job : List ℕ) (b : Bytes job) where
   -- and accepted if its groups are stars
   pub star-job : (j : JobIn job) → AreStars (runsOf (j .runs)) → judged (parse job) ≡ accepted (j .number) (j .runs)
   star-job j s = accepts-judged (parse job) (j .number) (j .runs) (job-read j) (are-stars (runsOf (j .runs)) s)
-
--- an accepted job has at most 32 runs
-pub accepted-few : (job : List ℕ) (number : ℕ) (runs : List Read) → Bytes job → judged (parse job) ≡ accepted number runs → length runs ≤ 32
-accepted-few job number runs b e = job-star job b number runs e .0 .most
 
 -- two jobs of the same bytes are the same
 pub same-job : (job : List ℕ) → Bytes job → (j : JobIn job) (number : ℕ) (runs : List Read) → parse job ≡ accepted number runs

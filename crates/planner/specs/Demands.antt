@@ -42,8 +42,8 @@ pub record Admitted (job : List ℕ) (words bytes : ℕ) : Type 0 where
   pub job-in : JobIn job
   pub stars : AreStars (runsOf (job-in .runs))
 
--- When a refusal applies to a call: 1, "work sheet under 16,384 words"; 2, "plan buffer under 40,960 bytes"; 3 to 9 by the job's bytes; 11 of a job that is well
--- formed "means that some group isn't" a star (02, C-16).
+-- When a refusal applies to a call: 1, "work sheet under 16,384 words"; 2, "plan buffer under 40,960 bytes"; 3 to 9 and 17 by the job's bytes; 11 of a job that is
+-- well formed "means that some group isn't" a star (02, C-16).
 pub data Applies (job : List ℕ) (words bytes : ℕ) : Refusal → Type 0 where
   short-work : words < 16384 → Applies job words bytes ShortWork
   short-plan : bytes < 40960 → Applies job words bytes ShortBuffer

@@ -9,7 +9,8 @@ use Rattle.network.specs.Hanan.{hanan}
 use Rattle.network.specs.Route.{Route, Least}
 use Rattle.network.specs.Corners.{corners}
 use Rattle.job.specs.declared.Run.{Run as Read}
-use Rattle.refusal.specs.declared.Refusal.the-variants.{NoStar}
+use Rattle.refusal.specs.declared.Refusal.{Refusal}
+use Rattle.refusal.specs.declared.Refusal.the-variants.{NoStar, Coincident}
 use Rattle.job.specs.Parse.{Parsed, accepted, refused}
 use Rattle.job.specs.Written.{bytesOf}
 use Rattle.plan.specs.declared.Head.{Head}
@@ -36,9 +37,9 @@ numberedFrom n (r ∷ runs) =
 
 -- ---- the table
 
--- refused with 11; or the figures of its plans, with pits where they are given
+-- its refusal; or the figures of its plans, with pits where they are given
 pub data Figures : Type 0 where
-  refused-11 : Figures
+  refused-with : Refusal → Figures
   figures : (trench saved : ℕ) → Figures
   figures-pits : (trench saved pits : ℕ) → Figures
 
@@ -52,10 +53,11 @@ runs gives outcome = record { runs = numberedFrom 1 runs; outcome = outcome }
 
 abbrev pub examples : List Example
 examples =
-    ((run 5 5 5 5 ∷ []) gives figures-pits 0 0 1)
+    -- document 02, C-18: "Row 1 of the examples changes to this refusal"
+    ((run 5 5 5 5 ∷ []) gives refused-with (Coincident 5))
     ∷ ((run 0 0 3 4 ∷ []) gives figures 7 0)
     ∷ ((run 0 0 3 4 ∷ run 0 0 3 4 ∷ []) gives figures 7 7)
-    ∷ ((run 0 0 3 4 ∷ run 0 0 3 4 ∷ run 0 0 3 4 ∷ []) gives refused-11)
+    ∷ ((run 0 0 3 4 ∷ run 0 0 3 4 ∷ run 0 0 3 4 ∷ []) gives refused-with NoStar)
     -- document 02, C-16: "Rows 5 and 11 of the examples are now accepted with saved 0"
     ∷ ((run 0 0 3 3 ∷ run 3 3 5 5 ∷ []) gives figures 10 0)
     ∷ ((run 0 0 3 3 ∷ run 3 0 6 3 ∷ []) gives figures 9 3)
@@ -83,7 +85,7 @@ LeastOf runs routes = Least (hanan (runsOf runs)) (runsOf runs) routes
 
 -- a head has the row's figures
 abbrev pub Says : Figures → Head → Type 0
-Says refused-11 head = ⊥
+Says (refused-with x) head = ⊥
 Says (figures trench saved) head = (head .trench ≡ trench) × (head .saved ≡ saved)
 Says (figures-pits trench saved pits) head = (head .trench ≡ trench) × (head .saved ≡ saved) × (head .pits ≡ pits)
 
@@ -94,7 +96,7 @@ pub record HasFigures (runs : List Read) (given : Figures) : Type 0 where
   pub says : (number : ℕ) (routes : List Route) → LeastOf runs routes → Says given (planHead number runs routes)
 
 abbrev pub HoldsOf : List Read → Figures → Type 0
-HoldsOf runs refused-11 = (number : ℕ) → number < 2 ^ 32 → HasVerdict number runs (refused NoStar)
+HoldsOf runs (refused-with x) = (number : ℕ) → number < 2 ^ 32 → HasVerdict number runs (refused x)
 HoldsOf runs (figures trench saved) = HasFigures runs (figures trench saved)
 HoldsOf runs (figures-pits trench saved pits) = HasFigures runs (figures-pits trench saved pits)
 

@@ -7,7 +7,7 @@ use mathlib.Core.List.{[], _∷_}
 use native.Mathlib.Omega.{arith}
 use lib.ListN.{getD}
 use Rattle.refusal.specs.declared.Refusal.{Refusal}
-use Rattle.refusal.specs.declared.Refusal.the-variants.{ShortWork, ShortBuffer, Cut, UnknownKind, Misplaced, WrongCount, WrongNumber, OutOfRange, TooManyRuns, NoStar, NotWhole, NoTurn, Miscounted, OtherJob, Untrue}
+use Rattle.refusal.specs.declared.Refusal.the-variants.{ShortWork, ShortBuffer, Cut, UnknownKind, Misplaced, WrongCount, WrongNumber, OutOfRange, TooManyRuns, NoStar, NotWhole, NoTurn, Miscounted, OtherJob, Untrue, Coincident}
 use Rattle.refusal.specs.Refusal.{refusalNumber, refusalPlace}
 
 -- the refusal with a number and a place, 11 where no other has the number
@@ -15,7 +15,7 @@ abbrev refusalAt : (number p : ℕ) → Refusal
 refusalAt number p =
     getD
     (NoStar ∷ ShortWork ∷ ShortBuffer ∷ Cut p ∷ UnknownKind p ∷ Misplaced p ∷ WrongCount p ∷ WrongNumber p ∷ OutOfRange p ∷ TooManyRuns p
-    ∷ NoStar ∷ NoStar ∷ NotWhole p ∷ NoTurn p ∷ Miscounted p ∷ OtherJob p ∷ Untrue p ∷ [])
+    ∷ NoStar ∷ NoStar ∷ NotWhole p ∷ NoTurn p ∷ Miscounted p ∷ OtherJob p ∷ Untrue p ∷ Coincident p ∷ [])
     number NoStar
 
 -- every refusal is the one with its number and place
@@ -35,13 +35,14 @@ refusal-at (NoTurn p) = refl
 refusal-at (Miscounted p) = refl
 refusal-at (OtherJob p) = refl
 refusal-at (Untrue p) = refl
+refusal-at (Coincident p) = refl
 
 -- refusals with one number and one place are the same
 pub same-refusal : (x y : Refusal) → refusalNumber x ≡ refusalNumber y → refusalPlace x ≡ refusalPlace y → x ≡ y
 same-refusal x y n p = sym (refusal-at x) ∙ ap₂ refusalAt n p ∙ refusal-at y
 
--- refusals have the numbers 1 to 16, and none has 10
-pub refusal-numbers : (x : Refusal) → (1 ≤ refusalNumber x) × (refusalNumber x ≤ 16) × (refusalNumber x ≡ 10 → ⊥)
+-- refusals have the numbers 1 to 17, and none has 10
+pub refusal-numbers : (x : Refusal) → (1 ≤ refusalNumber x) × (refusalNumber x ≤ 17) × (refusalNumber x ≡ 10 → ⊥)
 refusal-numbers ShortWork = (omega arith, omega arith, λ e. omega arith)
 refusal-numbers ShortBuffer = (omega arith, omega arith, λ e. omega arith)
 refusal-numbers (Cut p) = (omega arith, omega arith, λ e. omega arith)
@@ -57,3 +58,4 @@ refusal-numbers (NoTurn p) = (omega arith, omega arith, λ e. omega arith)
 refusal-numbers (Miscounted p) = (omega arith, omega arith, λ e. omega arith)
 refusal-numbers (OtherJob p) = (omega arith, omega arith, λ e. omega arith)
 refusal-numbers (Untrue p) = (omega arith, omega arith, λ e. omega arith)
+refusal-numbers (Coincident p) = (omega arith, omega arith, λ e. omega arith)

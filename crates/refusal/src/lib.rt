@@ -2,7 +2,7 @@
 ghost use mathlib.Core.Path.{_≡_};
 ghost use Rattle.refusal.specs.Refusal.{refusalNumber, refusalPlace};
 
-// The documents' numbers 1 to 9 and 11 to 16 in this order. A case that has a place holds it.
+// The documents' numbers 1 to 9 and 11 to 17 in this order. A case that has a place holds it.
 pub enum Refusal {
     ShortWork,
     ShortBuffer,
@@ -19,6 +19,7 @@ pub enum Refusal {
     Miscounted(usize),
     OtherJob(usize),
     Untrue(usize),
+    Coincident(usize),
 }
 
 // The documents' number of a refusal.
@@ -41,6 +42,7 @@ pub fn number(refusal: Refusal) -> u32
         Refusal::Miscounted(_) => 14,
         Refusal::OtherJob(_) => 15,
         Refusal::Untrue(_) => 16,
+        Refusal::Coincident(_) => 17,
     }
 }
 
@@ -64,5 +66,6 @@ pub fn place(refusal: Refusal) -> usize
         Refusal::Miscounted(at) => at,
         Refusal::OtherJob(at) => at,
         Refusal::Untrue(at) => at,
+        Refusal::Coincident(at) => at,
     }
 }

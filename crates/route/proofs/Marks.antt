@@ -11,11 +11,10 @@ use lib.Seq.{getD-set-same, getD-set-other}
 use lib.Dec.{eqb}
 use lib.Bits.{bitOr}
 use Rattle.network.specs.Lists.{any, All, count, each}
-use Rattle.network.specs.Plane.{Point}
+use Rattle.network.specs.Plane.{Point, samePoint}
 use Rattle.network.specs.Route.{Route as Points, pieces, Vertex}
 use Rattle.network.specs.Steps.{Dir, hor, ver}
 use Rattle.network.specs.Passes.{passes}
-use Rattle.network.specs.Corners.{samePoint}
 use Rattle.network.specs.Entries.{below-at, length-below}
 use Rattle.network.specs.Graph.{below}
 use Rattle.network.specs.Pits.{among, pitPoints, pitsOf}

@@ -9,11 +9,10 @@ use native.Mathlib.Omega.{arith}
 use borrow.Author.Tests.{eq-eqb, eqb-true}
 use lib.Dec.{eqb}
 use Rattle.network.specs.Lists.{any}
-use Rattle.network.specs.Plane.{Point, _to_}
+use Rattle.network.specs.Plane.{Point, _to_, samePoint}
 use Rattle.network.specs.Route.{piecesFrom, pieces, level}
 use Rattle.network.specs.Steps.{Dir, hor, ver, steps, Lane, forth, back, extent, at, Fits}
 use Rattle.network.specs.Passes.{passes}
-use Rattle.network.specs.Corners.{samePoint}
 use Rattle.network.specs.Pits.{among, amid, passesRow, passesColumn}
 use Rattle.network.proofs.Tests.{same-test, eqb-same, or-split, or-join, is-false}
 use Rattle.network.proofs.Numbers.{order}

@@ -12,8 +12,8 @@ use Rattle.network.specs.Lists.{All}
 use Rattle.network.specs.Plane.{Point}
 use Rattle.network.specs.Grid.{Grid}
 use Rattle.network.specs.Steps.{Dir, hor, ver, steps, Lane, extent, at, Fits, spot, drawFrom, drawn}
-use Rattle.network.specs.Corners.{samePoint, straightOn, cornersFrom, corners}
-use Rattle.network.proofs.Corners.{corner-on, corner-at, corner-end}
+use Rattle.network.specs.Corners.{straightOn, cornersFrom, corners}
+use Rattle.network.proofs.Corners.{corner-on, corner-at}
 use Rattle.route.proofs.Lanes.{lane-apart}
 use Rattle.route.specs.Walker.{headingOf}
 
@@ -133,21 +133,11 @@ module _ (g : Grid) (X Y : Lane) (fx : Fits (g .columns) X) (fy : Fits (g .rows)
         eq-eqb (getD (g .columns) (at X i) 0) (getD (g .columns) (at X i) 0) refl,
       )
 
-  -- it does not stand still
-  moved : (d : Dir) (k i j : ℕ) → Behind d k i j → i ≤ extent X → j ≤ extent Y → samePoint (origin (spot g X Y) d k i j) (spot g X Y i j) ≡ false
-  unfolding samePoint
-  moved hor k i j b p q = rw (ne-eqb _ _ (lane-apart (g .columns) (g .columns-rise) X fx k i b p))
-  moved ver k i j b p q =
-      rw (
-        ne-eqb _ _ (lane-apart (g .rows) (g .rows-rise) Y fy k j b q),
-        eq-eqb (getD (g .columns) (at X i) 0) (getD (g .columns) (at X i) 0) refl,
-      )
-
   -- from a vertex that the way came by along d, the corners are the turns
   turns-from : (s : List Dir) (d : Dir) (k i j : ℕ) → Behind d k i j → i + steps hor s ≤ extent X → j + steps ver s ≤ extent Y
       → cornersFrom (origin (spot g X Y) d k i j) (spot g X Y i j) (drawFrom g X Y i j s) ≡ turns (spot g X Y) i j (headingOf d) s
   unfolding steps
-  turns-from [] d k i j b p q = corner-end _ _ (moved d k i j b (omega arith) (omega arith))
+  turns-from [] d k i j b p q = refl
   turns-from (hor ∷ s) hor k i j b p q =
       corner-on _ _ _ (drawFrom g X Y (suc i) j s) (on-row k i j) ∙ turns-from s hor k (suc i) j (omega arith) (omega arith) (omega arith)
   turns-from (ver ∷ s) hor k i j b p q =

@@ -7,11 +7,10 @@ use Prim.Native.Nat.{ℕ, _+_, _*_, _<_}
 use lib.ListN.{length, getD}
 use lib.Dec.{eqb}
 use Rattle.network.specs.Lists.{any, count, each}
-use Rattle.network.specs.Plane.{Point}
+use Rattle.network.specs.Plane.{Point, samePoint}
 use Rattle.network.specs.Route.{Route as Points, pieces}
 use Rattle.network.specs.Steps.{Dir, hor, ver}
 use Rattle.network.specs.Passes.{passes}
-use Rattle.network.specs.Corners.{samePoint}
 use Rattle.network.specs.Pits.{among}
 use Rattle.route.specs.declared.Vertex.{Vertex}
 

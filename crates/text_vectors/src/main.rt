@@ -60,7 +60,8 @@ fn refusal(nth: u32, place: usize) -> Refusal {
         12 => Refusal::NoTurn(place),
         13 => Refusal::Miscounted(place),
         14 => Refusal::OtherJob(place),
-        _ => Refusal::Untrue(place),
+        15 => Refusal::Untrue(place),
+        _ => Refusal::Coincident(place),
     }
 }
 
@@ -71,7 +72,7 @@ fn list_refusal(refusal: Refusal) {
 }
 
 fn list_refusals(place: usize) {
-    for nth in 1..16 {
+    for nth in 1..17 {
         list_refusal(refusal(nth, place));
     }
 }

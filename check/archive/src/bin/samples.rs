@@ -1,6 +1,6 @@
 //! Makes the files of `samples/` anew: for each typed job its job book, its plan book and its listing, and the damaged books of
 //! both kinds with their listings, and a contractor's. The plans are the archive's; the damaged plan books and the contractor's are
-//! listed by the independent reader.
+//! listed by the independent reader. One typed job, whose run goes nowhere, is refused at the desk, and its job book is a stored one.
 
 use std::fs;
 use std::path::Path;
@@ -41,9 +41,11 @@ fn make(folder: &Path) -> Result<usize, String> {
     for entry in fs::read_dir(folder).map_err(failed)? {
         let path = entry.map_err(failed)?.path();
         if path.extension().is_some_and(|kind| kind == "txt") {
-            let typed = text::parse(&fs::read_to_string(&path).map_err(failed)?);
-            let typed = typed.map_err(|errors| format!("{}: {}", path.display(), errors[0]))?;
-            write(&path, &job_bytes(&typed.job)).map_err(failed)?;
+            let job = match path.file_stem().is_some_and(|name| name == NOWHERE) {
+                true => Job { number: 1, runs: vec![run(1, (5, 5), (5, 5))] },
+                false => typed_job(&path)?,
+            };
+            write(&path, &job_bytes(&job)).map_err(failed)?;
             made += 1;
         }
     }
@@ -62,15 +64,25 @@ fn make(folder: &Path) -> Result<usize, String> {
     Ok(made)
 }
 
+/// The typed job that is refused at the desk: row 1 of document 01's examples.
+const NOWHERE: &str = "example-01-point";
+
+/// The job of a typed one, or its first error.
+fn typed_job(path: &Path) -> Result<Job, String> {
+    let text = fs::read_to_string(path).map_err(|error| format!("{}: {error}", path.display()))?;
+    let typed = text::parse(&text).map_err(|errors| format!("{}: {}", path.display(), errors[0]))?;
+    Ok(typed.job)
+}
+
 /// Writes a job book, and beside it its plan book and its listing, or the listing of its refusal.
 fn write(path: &Path, job: &[u8]) -> std::io::Result<()> {
     let mut out = vec![0; PLAN_ROOM];
     let answer = plan(Function::Archive, job, &mut out);
     fs::write(path.with_extension("job"), job)?;
     match (usize::try_from(answer), verdict(job)) {
-        (Ok(length), _) => write_plan(path, &out[..length]),
+        (Ok(length), Ok(_)) => write_plan(path, &out[..length]),
         (Err(_), Err(refusal)) => fs::write(path.with_extension("lst"), listing::of_refusal(refusal)),
-        (Err(_), Ok(_)) => panic!("{}: the archive refuses a right job with {answer}", path.display()),
+        (_, due) => panic!("{}: the archive answers {answer}, and {due:?} is due", path.display()),
     }
 }
 
@@ -90,7 +102,21 @@ fn run(number: u16, first: (i32, i32), second: (i32, i32)) -> Run {
     Run { number, first: Point::new(first.0, first.1), second: Point::new(second.0, second.1) }
 }
 
-/// The job of document 01's listing, and a blank one, damaged in each way that has a number of its own.
+/// The job of a plan that was stored when a run could go nowhere: its last run does.
+fn stored() -> Job {
+    let runs = vec![
+        run(1, (0, 0), (100, 10)),
+        run(2, (0, 5), (5, 80)),
+        run(3, (60, 0), (100, -20)),
+        run(4, (30, 30), (70, 60)),
+        run(5, (40, 50), (40, 30)),
+        run(6, (60, 60), (80, 50)),
+        run(7, (50, 40), (50, 40)),
+    ];
+    Job { number: 2053, runs }
+}
+
+/// The job of document 01's listing, and a blank one, damaged in each way that has a number of its own; and a stored one.
 fn damaged() -> Vec<(&'static str, Vec<u8>)> {
     let job = job_7();
     let whole = job_bytes(&job);
@@ -119,6 +145,8 @@ fn damaged() -> Vec<(&'static str, Vec<u8>)> {
         ("07-number", with(&|job| job.runs[2].number = 2)),
         ("08-coordinate", with(&|job| job.runs[1].second.x = 1_000_001)),
         ("09-too-many", with(&|job| job.runs = (1..=33).map(|n| run(n, (0, 0), (i32::from(n), 1))).collect())),
+        ("17-nowhere", with(&|job| job.runs[1].second = job.runs[1].first)),
+        ("17-stored", job_bytes(&stored())),
     ]
 }
 

@@ -76,7 +76,7 @@ pub fn samples(ending: &str) -> Vec<PathBuf> {
     samples_in("samples", ending)
 }
 
-/// The samples with this ending that were written before there were groups, in order.
+/// The samples with this ending that earlier planners wrote, in order.
 pub fn older_samples(ending: &str) -> Vec<PathBuf> {
     samples_in("samples/older", ending)
 }

@@ -25,9 +25,16 @@ returns-3 : tie.Need-returns-3
 unfolding runStep
 returns-3 c = simp (lt-leb _ _ (c .before .before .before .before .if1 .left), sym (c .before .before .before .number-follows .ensures) ∙ not-false _ (c .before .before .if2 .left), sym (c .before .coordinates-in .ensures) ∙ not-true _ (c .if3 .taken))
 
+coincide-requires : tie.Need-coincide-requires
+coincide-requires c κs = search needs
+
 returns-4 : tie.Need-returns-4
 unfolding runStep
-returns-4 c = simp (lt-leb _ _ (c .before .before .before .before .if1 .left), sym (c .before .before .before .number-follows .ensures) ∙ not-false _ (c .before .before .if2 .left), sym (c .before .coordinates-in .ensures) ∙ not-false _ (c .if3 .left))
+returns-4 c = simp (lt-leb _ _ (c .before .before .before .before .before .before .if1 .left), sym (c .before .before .before .before .before .number-follows .ensures) ∙ not-false _ (c .before .before .before .before .if2 .left), sym (c .before .before .before .coordinates-in .ensures) ∙ not-false _ (c .before .before .if3 .left), sym (c .before .coincide .ensures) ∙ c .if4 .taken)
+
+returns-5 : tie.Need-returns-5
+unfolding runStep
+returns-5 c = simp (lt-leb _ _ (c .before .before .before .before .before .before .if1 .left), sym (c .before .before .before .before .before .number-follows .ensures) ∙ not-false _ (c .before .before .before .before .if2 .left), sym (c .before .before .before .coordinates-in .ensures) ∙ not-false _ (c .before .before .if3 .left), sym (c .before .coincide .ensures) ∙ c .if4 .left)
 
 pub run-step-spec : {M : Type 1} → statement M
 run-step-spec =
@@ -38,4 +45,6 @@ run-step-spec =
     returns-2
     coordinates-in-requires
     returns-3
-    returns-4)
+    coincide-requires
+    returns-4
+    returns-5)

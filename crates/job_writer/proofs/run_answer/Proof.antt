@@ -2,8 +2,9 @@
 use mathlib.Core.Path.{_≡_, sym, ap, ap₂, _∙_}
 use borrow.Author.Tests.{not-true, not-false}
 use borrow.Author.Needs.{needs}
-use Rattle.job_writer.specs.Listed.{listedAt, numberBefore, follows, coordinatesIn, runAnswer}
-use Rattle.job_writer.proofs.Signed.{word-back}
+use Rattle.job.specs.Parse.{coincide}
+use Rattle.job_writer.specs.Listed.{listedAt, runOf, numberBefore, follows, coordinatesIn, runAnswer}
+use Rattle.job_writer.proofs.Signed.{word-back, follows-least}
 use Rattle.job_writer.proofs.run_answer.Statement.{statement}
 use Rattle.job_writer.proofs.run_answer.Tie as tie
 
@@ -47,11 +48,48 @@ returns-2 c =
     let k = c .before in
     simp (sym (number-said (k .before .before)) ∙ not-false _ (k .before .if1 .left), sym (coordinates-said k) ∙ not-true _ (c .if2 .taken))
 
+-- a run that passed both can be held
+run-of-requires : tie.Need-run-of-requires
+run-of-requires c κs =
+    let k = c .before in
+    let n = k .before .before in
+    let l = n .before .before .before in
+    let a = l .before .args in
+    rw (l .listed-at .ensures) (
+      follows-least (numberBefore (a .runs .now) (a .i)) (listedAt (a .runs .now) (a .i) .number) (sym (number-said n) ∙ not-false _ (k .before .if1 .left)),
+      sym (coordinates-said k) ∙ not-false _ (c .if2 .left),
+    )
+
+coincide-requires : tie.Need-coincide-requires
+coincide-requires c κs = search needs
+
+-- and what the test of its points says
+points-said : (p : tie.After-coincide)
+    → let a = p .before .before .before .before .before .before .before .before .before .args in
+    p .coincide .result ≡ coincide (runOf (listedAt (a .runs .now) (a .i)))
+points-said p =
+    let r = p .before in
+    p .coincide .ensures ∙ ap coincide (r .run-of .ensures ∙ ap runOf (r .before .before .before .before .before .before .before .listed-at .ensures))
+
 returns-3 : tie.Need-returns-3
 unfolding runAnswer
 returns-3 c =
-    let k = c .before in
-    simp (sym (number-said (k .before .before)) ∙ not-false _ (k .before .if1 .left), sym (coordinates-said k) ∙ not-false _ (c .if2 .left))
+    let k = c .before .before .before .before in
+    simp (
+      sym (number-said (k .before .before)) ∙ not-false _ (k .before .if1 .left),
+      sym (coordinates-said k) ∙ not-false _ (c .before .before .before .if2 .left),
+      sym (points-said (c .before)) ∙ c .if3 .taken,
+    )
+
+returns-4 : tie.Need-returns-4
+unfolding runAnswer
+returns-4 c =
+    let k = c .before .before .before .before in
+    simp (
+      sym (number-said (k .before .before)) ∙ not-false _ (k .before .if1 .left),
+      sym (coordinates-said k) ∙ not-false _ (c .before .before .before .if2 .left),
+      sym (points-said (c .before)) ∙ c .if3 .left,
+    )
 
 pub run-answer-spec : {M : Type 1} → statement M
 run-answer-spec =
@@ -63,4 +101,7 @@ run-answer-spec =
     returns
     coordinates-in-requires
     returns-2
-    returns-3)
+    run-of-requires
+    coincide-requires
+    returns-3
+    returns-4)

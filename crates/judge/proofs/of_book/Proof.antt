@@ -50,6 +50,9 @@ enum-told-14 c = search needs
 enum-told-15 : tie.Need-enum-told-15
 enum-told-15 c = search needs
 
+enum-told-16 : tie.Need-enum-told-16
+enum-told-16 c = search needs
+
 returns : tie.Need-returns
 returns c = sym (ap (ofBook (c .before .before .args .place)) (c .enum-told .given .1))
 
@@ -95,6 +98,9 @@ returns-14 c = sym (ap (ofBook (c .before .before .args .place)) (c .enum-told14
 returns-15 : tie.Need-returns-15
 returns-15 c = sym (ap (ofBook (c .before .before .args .place)) (c .enum-told15 .given .1))
 
+returns-16 : tie.Need-returns-16
+returns-16 c = sym (ap (ofBook (c .before .before .args .place)) (c .enum-told16 .given .1))
+
 pub of-book-spec : {M : Type 1} → statement M
 of-book-spec =
     tie.close
@@ -114,6 +120,7 @@ of-book-spec =
     enum-told-13
     enum-told-14
     enum-told-15
+    enum-told-16
     returns
     returns-2
     returns-3
@@ -128,4 +135,5 @@ of-book-spec =
     returns-12
     returns-13
     returns-14
-    returns-15)
+    returns-15
+    returns-16)

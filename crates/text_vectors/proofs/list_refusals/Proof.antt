@@ -1,4 +1,4 @@
--- `text_vectors::list_refusals` is safe and ends: there are fifteen.
+-- `text_vectors::list_refusals` is safe and ends: there are sixteen.
 use Prim.Native.Nat.{_-_}
 use borrow.Author.Needs.{needs}
 use Rattle.text_vectors.proofs.list_refusals.Statement.{statement}
@@ -8,7 +8,7 @@ abbrev Inv-loop : tie.InvT-loop
 Inv-loop place nth₀ nth = Unit {0}
 
 abbrev μ-loop : tie.MeasureT-loop
-μ-loop place nth₀ nth = 16 - nth
+μ-loop place nth₀ nth = 17 - nth
 
 loop-holds : tie.Need-loop-holds Inv-loop μ-loop
 loop-holds c = search needs

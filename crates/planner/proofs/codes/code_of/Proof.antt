@@ -15,7 +15,7 @@ use Rattle.planner.proofs.codes.code_of.Tie as tie
 number-requires : tie.Need-number-requires
 number-requires c κs = search needs
 
-few : (c : tie.After-number) → c .number .result ≤ 16
+few : (c : tie.After-number) → c .number .result ≤ 17
 few c = omega (arith, refusal-numbers (c .before .args .refusal))
 
 cast-result : tie.Need-cast-result
