@@ -93,15 +93,15 @@ runs-back (suc records) number at n last (r ∷ runs) (more rises range apart re
     ∙ ap (withFirst r) (runs-back records number (at + 19) (suc n) (r .number) runs rest (omega arith) (omega arith)))
 
 -- the head of a job that is written is read, and its records are then read on
-pub head-read : (number : ℕ) (runs : List Run) → number < 2 ^ 32
+pub behind-head : (number : ℕ) (runs : List Run) → number < 2 ^ 32
     → parse (bytesOf number runs) ≡ readFrom 33 number 5 0 0 (runsBytes runs ++ (0x5A ∷ bytes2 (length runs)))
 unfolding parse firstBy bytesOf
-head-read number runs h =
+behind-head number runs h =
     let rest = runsBytes runs ++ (0x5A ∷ bytes2 (length runs)) in
     ap (λ g. firstBy g rest) (head-back number h rest)
 
 -- the bytes of a well formed job are read as that job
 pub written-read : (number : ℕ) (runs : List Run) → WellFormed number runs → parse (bytesOf number runs) ≡ accepted number runs
 written-read number runs w =
-    head-read number runs (w .fits)
+    behind-head number runs (w .fits)
     ∙ rw (zero-add (length runs)) at (runs-back 33 number 5 0 0 runs (well-formed-rising number runs w) (omega (arith, w .most)) (omega (arith, w .most)))

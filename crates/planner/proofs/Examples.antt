@@ -36,7 +36,7 @@ use Rattle.job.specs.Parse.{Parsed, accepted, refused, follows, coordinatesIn, 
 use Rattle.job.specs.Written.{bytes2, runsBytes, bytesOf, InRange, WellFormed}
 use Rattle.job.proofs.Steps.{coincide-false}
 use Rattle.job.proofs.Rising.{Rising, none, more, rising-well-formed}
-use Rattle.job.proofs.Written.{head-read, written-read}
+use Rattle.job.proofs.Written.{behind-head, written-read}
 use Rattle.plan.specs.declared.Head.{Head}
 use Rattle.plan.specs.Records.{headRecord, endRecord}
 use Rattle.plan.specs.Plan.{Entry, bookBytes, entriesFrom, headOf, meetsOf, centreFigure, drawnBytes, planBytes}
@@ -154,7 +154,7 @@ refused-true x (refused y) h =
 sound : (runs : List Read) (o : Figures) → ((number : ℕ) → testOf number runs o ≡ true) → HoldsOf runs o
 unfolding testOf
 sound runs (refused-with x) h = λ number f work out words bytes.
-    enough (bytesOf number runs) work out words bytes ∙ ap judged (head-read number runs f) ∙ refused-true x _ (h number)
+    enough (bytesOf number runs) work out words bytes ∙ ap judged (behind-head number runs f) ∙ refused-true x _ (h number)
 sound runs (figures trench saved) h =
     let (w, t) = and-split (wellTest runs) _ (h 0) in
     let p = plan-true runs w trench saved (λ c. true) t in
