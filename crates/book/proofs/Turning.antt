@@ -17,9 +17,8 @@ use Rattle.network.specs.Corners.{straightOn, cornersFrom, corners}
 use Rattle.network.proofs.Numbers.{Between, rise, fall}
 use Rattle.network.proofs.Lanes.{point-path}
 use Rattle.network.proofs.Monotone.{Towards, towards-first, towards-trans, Monotone, monotone}
-use Rattle.network.proofs.Joining.{On-line}
-use Rattle.network.proofs.Corners.{line-true, true-line}
-use Rattle.network.proofs.Turns.{Moves}
+use Rattle.network.proofs.Joining.{On-line, line-straight}
+use Rattle.network.proofs.Corners.{line-true, true-line, TwoPoints}
 use Rattle.book.specs.Right.{Turned, Turning}
 
 -- ---- one turn
@@ -50,10 +49,6 @@ turn p q r s t n = (
 )
 
 -- ---- straight on
-
--- of three points on one line the outer two make a straight piece
-line-straight : (p q r : Point) → On-line p q r → Straight (p to r)
-line-straight p q r s = ⊎-map (λ k. k .here ∙ k .there) (λ k. k .here ∙ k .there) s
 
 -- on the way from a number back to it lies no other
 between-same : {a b c : ℕ} → Between a b c → a ≡ c → a ≡ b
@@ -102,7 +97,7 @@ turning-from p q (r ∷ l) z far d s m = go (straightOn p q r) refl (λ k. turni
     go false e on = turning-after p q r l z (turn p q r d (s .0) e) (s .1) (m .1)
 
 -- the corners of a Manhattan route between two points turn
-pub corners-turning : (g : Grid) (run : Run) (route : Route) → Moves run → Manhattan g run route → Turning (corners route)
-corners-turning g run [] moves m = tt
-corners-turning g run (p ∷ []) moves m = tt
-corners-turning g run (p ∷ q ∷ l) moves m = turning-from p q l (run .second) (λ e. moves (sym (m .starts) ∙ e)) (m .straight .0) (m .straight .1) (monotone p (q ∷ l) m)
+pub corners-turning : (g : Grid) (run : Run) (route : Route) → TwoPoints run → Manhattan g run route → Turning (corners route)
+corners-turning g run [] two m = tt
+corners-turning g run (p ∷ []) two m = tt
+corners-turning g run (p ∷ q ∷ l) two m = turning-from p q l (run .second) (λ e. two (sym (m .starts) ∙ e)) (m .straight .0) (m .straight .1) (monotone p (q ∷ l) m)

@@ -56,6 +56,13 @@ coordinates-true r t =
     let y1 = and-eq-true-iff (leb (r .x1) 2000000) (leb (r .y1) 2000000) .0 (x2 .0) in
     record { x1-in = leb-true _ _ (y1 .0); y1-in = leb-true _ _ (y1 .1); x2-in = leb-true _ _ (x2 .1); y2-in = leb-true _ _ (y2 .1) }
 
+-- a run that passes both tests is in range
+pub tested-range : (last : ℕ) (r : Run) → follows last (r .number) ≡ true → coordinatesIn r ≡ true → InRange r
+tested-range last r s t =
+    let f = follows-true last (r .number) s in
+    let g = coordinates-true r t in
+    record { least = f .least; most = f .most; x1-in = g .x1-in; y1-in = g .y1-in; x2-in = g .x2-in; y2-in = g .y2-in }
+
 -- points that the test finds one
 pub coincide-true : (r : Run) → coincide r ≡ true → Coincide r
 coincide-true r t =
@@ -91,14 +98,13 @@ taken-run at n last q r e =
     let c = passed (not (coordinatesIn q)) _ _ _ (b .1) (refuse-next _ r) in
     let d = passed (coincide q) _ _ _ (c .1) (refuse-next _ r) in
     let same : q ≡ r = cc (d .1) in
-    let f = follows-true last (q .number) (not-false _ (b .0)) in
-    let g = coordinates-true q (not-false _ (c .0)) in
+    let f = not-false _ (b .0) in
     rw (← same)
     (record {
       is = refl;
       below = leb-false _ _ (a .0);
-      rises = f .rises;
-      range = record { least = f .least; most = f .most; x1-in = g .x1-in; y1-in = g .y1-in; x2-in = g .x2-in; y2-in = g .y2-in };
+      rises = follows-true last (q .number) f .rises;
+      range = tested-range last q f (not-false _ (c .0));
       apart = coincide-false q (d .0);
     })
 

@@ -24,8 +24,8 @@ use Rattle.network.proofs.Tests.{and-split, or-split}
 use Rattle.network.proofs.Lists.{any-true, every-true}
 use Rattle.network.proofs.Lanes.{point-path}
 use Rattle.network.proofs.Drawn.{from-steps}
-use Rattle.network.proofs.Corners.{corners-manhattan, corners-union}
-use Rattle.network.proofs.Turns.{Moves, to-turns}
+use Rattle.network.proofs.Corners.{TwoPoints, corners-manhattan, corners-union}
+use Rattle.network.proofs.Turns.{to-turns}
 
 -- ---- elements of a mapped list
 
@@ -172,12 +172,12 @@ unfoldable pub routesOf : Grid → Run → List Route
 routesOf g r = map (λ s. corners (drawn g (columnsOf g r) (rowsOf g r) s)) (ways (extent (columnsOf g r)) (extent (rowsOf g r)))
 
 -- the corners of a route are among them
-route-chosen : (g : Grid) (r : Run) → Placed g r → Moves r → (route : Route) → Manhattan g r route → Member (corners route) (routesOf g r)
+route-chosen : (g : Grid) (r : Run) → Placed g r → TwoPoints r → (route : Route) → Manhattan g r route → Member (corners route) (routesOf g r)
 unfolding routesOf
-route-chosen g r p moves route m =
+route-chosen g r p two route m =
     let X = columnsOf g r in
     let Y = rowsOf g r in
-    let s = to-turns g r X Y (frame-at g r p) moves route m in
+    let s = to-turns g r X Y (frame-at g r p) two route m in
     Memᴰ·cast (sym (s .same))
     (member-map (λ s. corners (drawn g X Y s)) (subst₂ (λ a b. Member (s .list) (ways a b)) (s .complete .all-columns) (s .complete .all-rows) (ways-complete (s .list))))
 
@@ -223,12 +223,12 @@ choices g [] = [] ∷ []
 choices g (r ∷ runs) = inFront (routesOf g r) (choices g runs)
 
 -- the corners of any routes are a choice
-pub choices-complete : (g : Grid) (runs : List Run) → All (Placed g) runs → All Moves runs → (routes : List Route) → Routes g runs routes
+pub choices-complete : (g : Grid) (runs : List Run) → All (Placed g) runs → All TwoPoints runs → (routes : List Route) → Routes g runs routes
     → Member (map corners routes) (choices g runs)
 unfolding choices
-choices-complete g [] p moves [] m = here refl
-choices-complete g (r ∷ runs) p moves (route ∷ routes) m =
-    member-front (route-chosen g r (p .0) (moves .0) route (m .0)) (choices-complete g runs (p .1) (moves .1) routes (m .1))
+choices-complete g [] p two [] m = here refl
+choices-complete g (r ∷ runs) p two (route ∷ routes) m =
+    member-front (route-chosen g r (p .0) (two .0) route (m .0)) (choices-complete g runs (p .1) (two .1) routes (m .1))
 
 -- and every choice is routes of the runs
 pub choices-sound : (g : Grid) (runs : List Run) → All (Placed g) runs → (c : List Route) → Member c (choices g runs) → Routes g runs c
@@ -253,9 +253,9 @@ leastTest g runs n t =
     && any (λ c. eqb (unionLength g c) n) (choices g runs)
 
 -- what is computed over all choices holds of all least plans
-pub least-tested : (g : Grid) (runs : List Run) → All (Placed g) runs → All Moves runs → (n : ℕ) (t : List Route → Bool) → leastTest g runs n t ≡ true → LeastAre g runs n t
+pub least-tested : (g : Grid) (runs : List Run) → All (Placed g) runs → All TwoPoints runs → (n : ℕ) (t : List Route → Bool) → leastTest g runs n t ≡ true → LeastAre g runs n t
 unfolding leastTest
-least-tested g runs p moves n t h =
+least-tested g runs p two n t h =
     let (a, b) = and-split _ _ h in
     let (c, m, e) = any-true (λ c. eqb (unionLength g c) n) (choices g runs) b in
     go a c (choices-sound g runs p c m) (eqb-true (unionLength g c) n e)
@@ -277,7 +277,7 @@ least-tested g runs p moves n t h =
     go a c m e =
         let all : (routes : List Route) → Routes g runs routes
         → (n < unionLength g (map corners routes)) ⊎ ((unionLength g (map corners routes) ≡ n) × (t (map corners routes) ≡ true))
-        = λ routes o. longer (map corners routes) (or-split _ _ (every-true (λ c. ltb n (unionLength g c) || eqb (unionLength g c) n && t c) a (choices-complete g runs p moves routes o))) in
+        = λ routes o. longer (map corners routes) (or-split _ _ (every-true (λ c. ltb n (unionLength g c) || eqb (unionLength g c) n && t c) a (choices-complete g runs p two routes o))) in
         let one : (routes : List Route) → Least g runs routes → (unionLength g (map corners routes) ≡ n) × (t (map corners routes) ≡ true)
         = λ routes l. least-only (map corners routes) (omega (arith, l .least c m, corners-union g runs routes (l .are-routes))) (all routes (l .are-routes)) in
         record {

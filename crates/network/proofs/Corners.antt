@@ -4,10 +4,11 @@ use mathlib.Core.Path.{_≡_, refl, sym, ap, ap₂, _∙_, subst}
 use mathlib.Core.Logic.{⊎-map}
 use mathlib.Core.List.{List, [], _∷_, map}
 use mathlib.Core.Bool.{Bool, true, false, cond, _&&_, _||_, or-assoc}
-use Prim.Native.Nat.{pred, _+_, _*_}
+use Prim.Native.Nat.{pred, _+_, _*_, _≤_, _<_}
 use native.Mathlib.Omega.{arith}
 use borrow.Author.Tests.{eqb-true, eq-eqb}
 use lib.Dec.{eqb}
+use lib.ListN.{length}
 use Rattle.network.specs.Lists.{any, count, All}
 use Rattle.network.specs.Plane.{Point, Run, _to_, samePoint}
 use Rattle.network.specs.Grid.{Grid, Edge, len}
@@ -18,7 +19,7 @@ use Rattle.network.proofs.Tests.{and-split, and-join, or-split, or-join
 use Rattle.network.proofs.Edges.{OfGrid, edges-cong}
 use Rattle.network.proofs.Monotone.{towards-trans, towards-first, Monotone, monotone, manhattan-of}
 use Rattle.network.proofs.Counting.{counting}
-use Rattle.network.proofs.Joining.{On-line, lies-through}
+use Rattle.network.proofs.Joining.{On-line, line-straight, lies-through}
 
 -- ---- the tests
 
@@ -64,6 +65,26 @@ corner-on p q r l e = ap (λ t. elim t as (λ u. List Point) [ true ↦ cornersF
 pub corner-at : (p q r : Point) (l : List Point) → straightOn p q r ≡ false → cornersFrom p q (r ∷ l) ≡ q ∷ cornersFrom q r l
 corner-at p q r l e = ap (λ t. elim t as (λ u. List Point) [ true ↦ cornersFrom p r l | false ↦ q ∷ cornersFrom q r l ]) e
 
+-- a run has two points
+abbrev pub TwoPoints : Run → Type 0
+TwoPoints run = run .first ≡ run .second → ⊥
+
+-- a route has a corner behind its first point: its end is one
+corners-end : (p q : Point) (l : List Point) → 0 < length (cornersFrom p q l)
+corners-end p q [] = omega arith
+corners-end p q (r ∷ l) = go (straightOn p q r) (corners-end p r l)
+  where
+    go : (b : Bool) → 0 < length (cornersFrom p r l)
+        → 0 < length {A = Point} (elim b as (λ u. List Point) [ true ↦ cornersFrom p r l | false ↦ q ∷ cornersFrom q r l ])
+    go true h = h
+    go false h = omega arith
+
+-- so a Manhattan route between two points has two corners or more
+pub corners-two : (g : Grid) (run : Run) (route : Route) → TwoPoints run → Manhattan g run route → 2 ≤ length (corners route)
+corners-two g run [] two m = absurd (m .starts)
+corners-two g run (p ∷ []) two m = absurd (two (sym (m .starts) ∙ m .ends))
+corners-two g run (p ∷ q ∷ l) two m = omega (arith, corners-end p q l)
+
 -- ---- the corners of a walk
 
 -- what a walk from p through the points of l to z has, and what another one keeps of it
@@ -81,7 +102,7 @@ skip : (g : Grid) (p q r : Point) (l : List Point) (z : Point) → On-line p q r
 skip g p q r l z s w =
     record {
       vertices = (w .vertices .0, w .vertices .1 .1);
-      straight = (⊎-map (λ t. t .here ∙ t .there) (λ t. t .here ∙ t .there) s, w .straight .1 .1);
+      straight = (line-straight p q r s, w .straight .1 .1);
       goes = (towards-trans (w .goes .0) (w .goes .1 .0), w .goes .1 .1);
     }
 

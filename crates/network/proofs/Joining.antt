@@ -1,12 +1,12 @@
 -- Two pieces in line make one piece: an edge of the grid lies on that one exactly if it lies on one of the two.
-use mathlib.Core.Path.{_≡_}
+use mathlib.Core.Path.{_≡_, _∙_}
 use mathlib.Core.Logic.{_⊎_, inl, inr, ⊎-map}
 use mathlib.Core.Bool.{false, _||_}
 use Prim.Native.Nat.{ℕ, _≤_}
 use native.Mathlib.Omega.{arith}
 use Rattle.network.specs.Plane.{Point, _to_}
 use Rattle.network.specs.Grid.{Grid, Edge}
-use Rattle.network.specs.Route.{Vertex, lies}
+use Rattle.network.specs.Route.{Vertex, Straight, lies}
 use Rattle.network.proofs.Tests.{is-false, or-split, or-join, same-test, Spans, Lies, lies-true, true-lies}
 use Rattle.network.proofs.Edges.{OfGrid, across-of, upward-of}
 use Rattle.network.proofs.Numbers.{Between, rise, fall}
@@ -21,6 +21,10 @@ pub record Through (a b c : ℕ) : Type 0 where
 -- three points are on one line
 abbrev pub On-line : Point → Point → Point → Type 0
 On-line p q r = Through (p .x) (q .x) (r .x) ⊎ Through (p .y) (q .y) (r .y)
+
+-- the outer two of them make a straight piece
+pub line-straight : (p q r : Point) → On-line p q r → Straight (p to r)
+line-straight p q r s = ⊎-map (λ t. t .here ∙ t .there) (λ t. t .here ∙ t .there) s
 
 -- what spans part of a way spans the way; and what spans a way spans one of its parts, unless it has the point between in it
 spans-join : {p q r lo hi : ℕ} → Between p q r → (Spans p q lo hi) ⊎ (Spans q r lo hi) → Spans p r lo hi

@@ -54,6 +54,11 @@ module _ (l : List ℕ) (r : Rising l) where
   lane-end (forth a n) f i h e = omega (arith, index-le l r (a + n) (a + i) f (omega arith))
   lane-end (back a n) f i h e = omega (arith, index-le l r (a - i) (a - n) (omega arith) (omega arith))
 
+  -- and so does every other: two of its lines are apart
+  pub lane-apart : (X : Lane) → Fits l X → (i m : ℕ) → i < m → m ≤ extent X → getD l (at X i) 0 ≡ getD l (at X m) 0 → ⊥
+  lane-apart (forth a n) f i m h k e = omega (arith, index-le l r (a + m) (a + i) (omega arith) (omega arith))
+  lane-apart (back a n) f i m h k e = omega (arith, index-le l r (a - i) (a - m) (omega arith) (omega arith))
+
   -- a line is between those before and those after it
   pub lane-between : (X : Lane) → Fits l X → (i m n : ℕ) → i ≤ m → m ≤ n → n ≤ extent X → Between (getD l (at X i) 0) (getD l (at X m) 0) (getD l (at X n) 0)
   lane-between (forth a e) f i m n h k o =

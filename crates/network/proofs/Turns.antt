@@ -1,4 +1,4 @@
--- Every Manhattan route of a run has a step list in the run's frame with the same corners.
+-- Every Manhattan route of a run between two points has a step list in the run's frame with the same corners.
 --
 -- Each piece of the route is a number of unit steps along one line. Of these steps only the first can turn, and it turns exactly where the piece
 -- does: the route comes to the piece along one line, and a step and a piece that start at one point in one direction leave that line together. So
@@ -7,23 +7,22 @@ use mathlib.Core.Path.{_≡_, refl, sym, ap, ap₂, _∙_, subst, subst₂}
 use mathlib.Core.Logic.{inl, inr}
 use mathlib.Core.List.{List, [], _∷_}
 use mathlib.Core.Bool.{Bool, true, false}
-use Prim.Native.Nat.{ℕ, zero, suc, _+_, _-_, _≤_, _<_}
+use Prim.Native.Nat.{ℕ, zero, suc, _+_, _≤_}
 use native.Mathlib.Omega.{arith}
 use borrow.Author.Tests.{eq-eqb, ne-eqb}
 use lib.ListN.{getD}
 use Rattle.network.specs.Lists.{All}
 use Rattle.network.specs.Plane.{Point, Run, _to_}
-use Rattle.network.specs.Grid.{Rising, Grid}
+use Rattle.network.specs.Grid.{Grid}
 use Rattle.network.specs.Route.{piecesFrom, Route, Vertex, Straight, Manhattan}
-use Rattle.network.specs.Steps.{Dir, hor, ver, steps, Lane, forth, back, extent, at, Fits, spot, Frame, Complete, drawFrom, drawn}
+use Rattle.network.specs.Steps.{Dir, hor, ver, steps, Lane, extent, at, Fits, spot, Frame, Complete, drawFrom, drawn}
 use Rattle.network.specs.Corners.{straightOn, cornersFrom, corners}
 use Rattle.network.proofs.Numbers.{Between}
-use Rattle.network.proofs.Rising.{index-le}
 use Rattle.network.proofs.Monotone.{Towards, Monotone, monotone}
-use Rattle.network.proofs.Joining.{On-line}
-use Rattle.network.proofs.Lanes.{lane-next, lane-end, point-path}
+use Rattle.network.proofs.Joining.{On-line, line-straight}
+use Rattle.network.proofs.Lanes.{lane-next, lane-end, lane-apart, point-path}
 use Rattle.network.proofs.Steps.{nextColumn, nextRow}
-use Rattle.network.proofs.Corners.{line-true, true-line, corner-on, corner-at}
+use Rattle.network.proofs.Corners.{line-true, true-line, corner-on, corner-at, TwoPoints}
 
 -- ---- standing still
 
@@ -68,11 +67,6 @@ on-through hor p o m z a b (inr t) = inr (record { here = t .here ∙ t .there; 
 on-through ver p o m z a b (inl t) = inl (record { here = t .here ∙ t .there; there = sym (a .0) ∙ b .0 })
 on-through ver p o m z a b (inr t) = absurd (a .1 (t .there))
 
--- the first and the last of three points on one line are on it
-line-straight : (p o m : Point) → On-line p o m → Straight (p to m)
-line-straight p o m (inl t) = inl (t .here ∙ t .there)
-line-straight p o m (inr t) = inr (t .here ∙ t .there)
-
 -- the way to a point along d is straight
 along-straight : (d : Dir) (o m : Point) → Along d o m → Straight (o to m)
 along-straight hor o m a = inr (a .0)
@@ -95,11 +89,6 @@ step-front d p o m z k l a b f = go (straightOn p o m) refl
         ∙ sym (corner-at p o z l (sym (same-turn d p o m z a b) ∙ e))
 
 -- ---- a piece
-
--- another line of a lane is another line of the grid
-lane-apart : (l : List ℕ) → Rising l → (X : Lane) → Fits l X → (i m : ℕ) → i < m → m ≤ extent X → getD l (at X i) 0 ≡ getD l (at X m) 0 → ⊥
-lane-apart l r (forth a n) f i m h k e = omega (arith, index-le l r (a + m) (a + i) (omega arith) (omega arith))
-lane-apart l r (back a n) f i m h k e = omega (arith, index-le l r (a - i) (a - m) (omega arith) (omega arith))
 
 -- k steps along d go from (i, j) to (a, b)
 abbrev Reaches : Dir → (k i j a b : ℕ) → Type 0
@@ -211,17 +200,13 @@ module _ (g : Grid) (X Y : Lane) (fx : Fits (g .columns) X) (fy : Fits (g .rows)
 
 -- ---- the law
 
--- a run's two points are apart
-abbrev pub Moves : Run → Type 0
-Moves run = run .first ≡ run .second → ⊥
-
--- so a step list that passes the whole frame has a step, and the corners of what it draws are the first point and those behind it
-drawn-start : (g : Grid) (run : Run) (X Y : Lane) → Frame g run X Y → Moves run → (s : List Dir) → 0 + steps hor s ≡ extent X → 0 + steps ver s ≡ extent Y
+-- a step list that passes the whole frame of a run between two points has a step, and the corners of what it draws are the first point and those behind it
+drawn-start : (g : Grid) (run : Run) (X Y : Lane) → Frame g run X Y → TwoPoints run → (s : List Dir) → 0 + steps hor s ≡ extent X → 0 + steps ver s ≡ extent Y
     → corners (drawn g X Y s) ≡ spot g X Y 0 0 ∷ cornersFrom (spot g X Y 0 0) (spot g X Y 0 0) (drawFrom g X Y 0 0 s)
 unfolding steps
-drawn-start g run X Y f moves [] a b = absurd (moves (sym (f .from) ∙ ap₂ (spot g X Y) a b ∙ f .upto))
-drawn-start g run X Y f moves (hor ∷ s) a b = corners-start (spot g X Y 0 0) (spot g X Y 1 0) (drawFrom g X Y 1 0 s) (inr refl)
-drawn-start g run X Y f moves (ver ∷ s) a b = corners-start (spot g X Y 0 0) (spot g X Y 0 1) (drawFrom g X Y 0 1 s) (inl refl)
+drawn-start g run X Y f two [] a b = absurd (two (sym (f .from) ∙ ap₂ (spot g X Y) a b ∙ f .upto))
+drawn-start g run X Y f two (hor ∷ s) a b = corners-start (spot g X Y 0 0) (spot g X Y 1 0) (drawFrom g X Y 1 0 s) (inr refl)
+drawn-start g run X Y f two (ver ∷ s) a b = corners-start (spot g X Y 0 0) (spot g X Y 0 1) (drawFrom g X Y 0 1 s) (inl refl)
 
 -- a step list that passes the whole frame, with the corners of a route
 pub record SameTurns (g : Grid) (X Y : Lane) (route : Route) : Type 0 where
@@ -229,18 +214,18 @@ pub record SameTurns (g : Grid) (X Y : Lane) (route : Route) : Type 0 where
   pub complete : Complete X Y list
   pub same : corners (drawn g X Y list) ≡ corners route
 
--- every Manhattan route of a run has one in the run's frame
-pub to-turns : (g : Grid) (run : Run) (X Y : Lane) → Frame g run X Y → Moves run → (route : Route) → Manhattan g run route → SameTurns g X Y route
-to-turns g run X Y f moves [] m = absurd (m .starts)
-to-turns g run X Y f moves (p ∷ []) m = absurd (moves (sym (m .starts) ∙ m .ends))
-to-turns g run X Y f moves (p ∷ q ∷ l) m =
+-- every Manhattan route of a run between two points has one in the run's frame
+pub to-turns : (g : Grid) (run : Run) (X Y : Lane) → Frame g run X Y → TwoPoints run → (route : Route) → Manhattan g run route → SameTurns g X Y route
+to-turns g run X Y f two [] m = absurd (m .starts)
+to-turns g run X Y f two (p ∷ []) m = absurd (two (sym (m .starts) ∙ m .ends))
+to-turns g run X Y f two (p ∷ q ∷ l) m =
     let e : spot g X Y 0 0 ≡ p = f .from ∙ sym (m .starts) in
     let s = steps-from g X Y (f .columns-fit) (f .rows-fit) (run .second) (f .upto) 0 0 p (q ∷ l) e (omega arith) (omega arith) (m .vertices) (m .straight) (monotone p (q ∷ l) m) in
     record {
       list = s .list;
       complete = record { all-columns = omega (arith, s .all-columns); all-rows = omega (arith, s .all-rows) };
       same =
-          drawn-start g run X Y f moves (s .list) (s .all-columns) (s .all-rows)
+          drawn-start g run X Y f two (s .list) (s .all-columns) (s .all-rows)
           ∙ ap (λ (t : List Point). spot g X Y 0 0 ∷ t) (s .same (spot g X Y 0 0) (inl refl))
           ∙ ap (λ (o : Point). o ∷ cornersFrom o o (q ∷ l)) e
           ∙ sym (corners-start p q l (m .straight .0));

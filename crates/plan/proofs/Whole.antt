@@ -12,7 +12,7 @@ use Rattle.network.specs.Hanan.{hanan}
 use Rattle.network.specs.Route.{Route, Routes}
 use Rattle.network.specs.Corners.{corners}
 use Rattle.network.proofs.Counting.{routes-length}
-use Rattle.network.proofs.Turns.{Moves}
+use Rattle.network.proofs.Corners.{TwoPoints}
 use Rattle.route.specs.declared.Route.{Route as Steps}
 use Rattle.route.specs.Route.{OnGrid, drawnOf, cornersOf, placed, Tables}
 use Rattle.route.proofs.Lists.{map-cong}
@@ -89,17 +89,17 @@ plan-written job numbers runs columns rows ns ms cs routes head fc fr t a h f =
 -- ---- no plan is long
 
 -- Manhattan routes have at most 127 corners each
-pub routes-few : (g : Grid) → length (g .columns) ≤ 64 → length (g .rows) ≤ 64 → (runs : List Run) (routes : List Route) → All Moves runs
+pub routes-few : (g : Grid) → length (g .columns) ≤ 64 → length (g .rows) ≤ 64 → (runs : List Run) (routes : List Route) → All TwoPoints runs
     → Routes g runs routes → All (λ c. length c ≤ 127) (map corners routes)
-routes-few g h k [] [] moves m = tt
-routes-few g h k (run ∷ runs) (route ∷ routes) moves m = (omega (arith, manhattan-few g run route (moves .0) (m .0)), routes-few g h k runs routes (moves .1) (m .1))
+routes-few g h k [] [] two m = tt
+routes-few g h k (run ∷ runs) (route ∷ routes) two m = (omega (arith, manhattan-few g run route (two .0) (m .0)), routes-few g h k runs routes (two .1) (m .1))
 
 -- No plan of at most 32 runs on at most 64 columns and 64 rows exceeds 36,886 bytes, whatever Manhattan routes it has.
 pub plan-most : (job : ℕ) (numbers : List ℕ) (runs : List Run) (routes : List Route) → length runs ≤ 32 → length (hanan runs .columns) ≤ 64
-    → length (hanan runs .rows) ≤ 64 → All Moves runs → Routes (hanan runs) runs routes → length (planBytes job numbers runs routes) ≤ 36886
+    → length (hanan runs .rows) ≤ 64 → All TwoPoints runs → Routes (hanan runs) runs routes → length (planBytes job numbers runs routes) ≤ 36886
 unfolding planBytes drawnBytes
-plan-most job numbers runs routes n h k moves m =
+plan-most job numbers runs routes n h k two m =
     let own = map corners routes in
     book-most (headOf job runs own) (entriesFrom (λ i. getD numbers i 0) (meetsOf runs) (centreFigure numbers runs) 0 own)
     (omega (arith, entries-length (λ i. getD numbers i 0) (meetsOf runs) (centreFigure numbers runs) 0 own, length-map routes corners, routes-length (hanan runs) runs routes m))
-    (entries-all (λ c. length c ≤ 127) (λ i. getD numbers i 0) (meetsOf runs) (centreFigure numbers runs) 0 own (routes-few (hanan runs) h k runs routes moves m))
+    (entries-all (λ c. length c ≤ 127) (λ i. getD numbers i 0) (meetsOf runs) (centreFigure numbers runs) 0 own (routes-few (hanan runs) h k runs routes two m))

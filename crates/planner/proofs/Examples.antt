@@ -9,7 +9,7 @@ use mathlib.Core.Bool.{Bool, true, false, cond, not, _&&_, false≢true}
 use mathlib.Core.List.{List, [], _∷_, _++_, map, flatten, flatMap}
 use Prim.Native.Nat.{ℕ, _+_, _^_, _≤_, _<_}
 use native.Mathlib.Omega.{arith}
-use borrow.Author.Tests.{leb-true, ltb-true, eqb-true, not-true}
+use borrow.Author.Tests.{leb-true, eqb-true, not-true}
 use lib.Dec.{eqb, leb}
 use lib.ListN.{length, getD, drop}
 use Rattle.network.specs.Lists.{sum, every, All}
@@ -33,8 +33,8 @@ use Rattle.refusal.specs.Refusal.{refusalNumber, refusalPlace}
 use Rattle.refusal.proofs.Numbers.{same-refusal}
 use Rattle.job.specs.Records.{decoded, recordOf}
 use Rattle.job.specs.Parse.{Parsed, accepted, refused, follows, coordinatesIn, coincide, runStep, endStep, stepBy, readFrom}
-use Rattle.job.specs.Written.{bytes2, runsBytes, bytesOf, InRange, WellFormed}
-use Rattle.job.proofs.Steps.{coincide-false}
+use Rattle.job.specs.Written.{bytes2, runsBytes, bytesOf, WellFormed}
+use Rattle.job.proofs.Steps.{follows-true, tested-range, coincide-false}
 use Rattle.job.proofs.Rising.{Rising, none, more, rising-well-formed}
 use Rattle.job.proofs.Written.{behind-head, written-read}
 use Rattle.plan.specs.declared.Head.{Head}
@@ -46,7 +46,7 @@ use Rattle.planner.specs.Figures.{planHead, planEntries}
 use Rattle.planner.specs.Outcome.{Outcome}
 use Rattle.planner.specs.Examples.{Figures, refused-with, figures, figures-pits, Example, examples, HasVerdict, LeastOf, HoldsOf, Holds, job7Runs, job7Head, job7Entries, blankHead, HasOnePlan}
 use Rattle.planner.proofs.Verdicts.{enough}
-use Rattle.planner.proofs.Fits.{runs-move}
+use Rattle.planner.proofs.Fits.{runs-apart}
 
 -- ---- well formed, by a test
 
@@ -59,26 +59,7 @@ rises last (r ∷ runs) = follows last (r .number) && coordinatesIn r && not (co
 wellTest : List Read → Bool
 wellTest runs = leb (length runs) 32 && rises 0 runs
 
--- a run that passes the reader's tests is in range and above the last
-coordinates-true : (last : ℕ) (r : Read) → follows last (r .number) ≡ true → coordinatesIn r ≡ true → (last < r .number) × InRange r
-coordinates-true last r f c =
-    let (g, up) = and-split (leb 1 (r .number) && leb (r .number) 9999) _ f in
-    let (least, most) = and-split (leb 1 (r .number)) _ g in
-    let (d, y2) = and-split (leb (r .x1) 2000000 && leb (r .y1) 2000000 && leb (r .x2) 2000000) _ c in
-    let (e, x2) = and-split (leb (r .x1) 2000000 && leb (r .y1) 2000000) _ d in
-    let (x1, y1) = and-split (leb (r .x1) 2000000) _ e in (
-      ltb-true last (r .number) up,
-      record {
-        least = leb-true 1 (r .number) least;
-        most = leb-true (r .number) 9999 most;
-        x1-in = leb-true (r .x1) 2000000 x1;
-        y1-in = leb-true (r .y1) 2000000 y1;
-        x2-in = leb-true (r .x2) 2000000 x2;
-        y2-in = leb-true (r .y2) 2000000 y2;
-      },
-    )
-
--- and so are all runs that do
+-- runs that pass it rise, are in range and have two points each
 rises-true : (last : ℕ) (runs : List Read) → rises last runs ≡ true → Rising last runs
 unfolding rises
 rises-true last [] h = none
@@ -86,8 +67,7 @@ rises-true last (r ∷ runs) h =
     let (b, rest) = and-split (follows last (r .number) && coordinatesIn r && not (coincide r)) _ h in
     let (a, n) = and-split (follows last (r .number) && coordinatesIn r) _ b in
     let (f, c) = and-split (follows last (r .number)) _ a in
-    let (up, range) = coordinates-true last r f c in
-    more up range (coincide-false r (not-true (coincide r) n)) (rises-true (r .number) runs rest)
+    more (follows-true last (r .number) f .rises) (tested-range last r f c) (coincide-false r (not-true (coincide r) n)) (rises-true (r .number) runs rest)
 
 -- a job that passes the test is well formed, under any number
 well-true : (number : ℕ) (runs : List Read) → number < 2 ^ 32 → wellTest runs ≡ true → WellFormed number runs
@@ -138,7 +118,7 @@ plan-true runs w trench saved t h =
     let (b, c) = and-split (leastTest (hanan (runsOf runs)) (runsOf runs) trench t) _ k in
     record {
       stars = a;
-      least = least-tested (hanan (runsOf runs)) (runsOf runs) (hanan-all (runsOf runs)) (runs-move runs (well-true 0 runs (omega arith) w .apart)) trench t b;
+      least = least-tested (hanan (runsOf runs)) (runsOf runs) (hanan-all (runsOf runs)) (runs-apart runs (well-true 0 runs (omega arith) w .apart)) trench t b;
       total = eqb-true (trench + saved) (sum distance (runsOf runs)) c;
     }
 

@@ -12,7 +12,7 @@ use Rattle.network.specs.Graph.{meets, degree}
 use Rattle.groups.proofs.Groups.{groups-most}
 use Rattle.network.specs.Corners.{corners}
 use Rattle.network.proofs.Counting.{counting}
-use Rattle.network.proofs.Turns.{Moves}
+use Rattle.network.proofs.Corners.{TwoPoints}
 use Rattle.network.proofs.Corners.{corners-routes}
 use Rattle.network.proofs.Hanan.{distinct-listed}
 use Rattle.grid.proofs.Insert.{length-distinct}
@@ -33,9 +33,9 @@ tail-in : (r : Read) (l : List Read) → AllIn (r ∷ l) → AllIn l
 tail-in r l h k i = h (suc k) (omega arith)
 
 -- each run has two points
-pub runs-move : (l : List Read) → ((k : ℕ) → k < length l → Coincide (getD l k noRun) → ⊥) → All Moves (runsOf l)
-runs-move [] h = tt
-runs-move (r ∷ l) h = (λ e. h 0 (omega arith) (ap (λ p. p .x) e, ap (λ p. p .y) e), runs-move l (λ k i. h (suc k) (omega arith)))
+pub runs-apart : (l : List Read) → ((k : ℕ) → k < length l → Coincide (getD l k noRun) → ⊥) → All TwoPoints (runsOf l)
+runs-apart [] h = tt
+runs-apart (r ∷ l) h = (λ e. h 0 (omega arith) (ap (λ p. p .x) e, ap (λ p. p .y) e), runs-apart l (λ k i. h (suc k) (omega arith)))
 
 -- ---- lines
 

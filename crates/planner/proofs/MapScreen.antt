@@ -20,7 +20,7 @@ use Rattle.planner.specs.declared.Answer.the-variants.{Planned, Refused}
 use Rattle.planner.specs.Verdict.{judged, verdict}
 use Rattle.planner.specs.Call.{runOf, runsOf, numbersOf, planOf, Said, gives, said, codeOf}
 use Rattle.planner.specs.Outcome.{Outcome, MapOutcome}
-use Rattle.planner.proofs.Fits.{runs-move, few-lines}
+use Rattle.planner.proofs.Fits.{runs-apart, few-lines}
 use Rattle.planner.proofs.Verdicts.{no-plan, short-plan}
 use Rattle.planner.proofs.Stages.{decided}
 use Rattle.planner.proofs.Stars.{job-star}
@@ -37,7 +37,7 @@ plan-short job out out′ n b p = go (judged (parse job)) refl p
     go (accepted number runs) e q =
         let w = job-star job b number runs e .0 in
         let l = few-lines runs (w .most) in
-        let m = plan-most number (numbersOf runs) (runsOf runs) (q .routes) (omega (arith, length-map runs runOf, w .most)) (l .0) (l .1) (runs-move runs (w .apart)) (q .least .are-routes) in
+        let m = plan-most number (numbersOf runs) (runsOf runs) (q .routes) (omega (arith, length-map runs runOf, w .most)) (l .0) (l .1) (runs-apart runs (w .apart)) (q .least .are-routes) in
         subst (λ k. k ≤ 36886) (sym (same-length n (length (planOf number runs (q .routes))) (q .says))) m
     go (refused x) e q = absurd (no-plan n (refusalNumber x) (refusalPlace x) (q .says))
 

@@ -1,21 +1,21 @@
 -- The plan of a well-formed job, whatever Manhattan routes it has, is a right book (`plan-right`): its figures fit their fields, its counts are right, and its
 -- corners are in range and turn. So a plan that the planner wrote is read back as it was written (`plan-read`, `call-read`).
-use mathlib.Core.Path.{_≡_, refl, sym, ap, _∙_, subst}
-use mathlib.Core.Bool.{Bool, true, false}
+use mathlib.Core.Path.{_≡_, refl, ap, _∙_, subst}
+use mathlib.Core.Bool.{true}
 use mathlib.Core.List.{List, [], _∷_, map}
 use Prim.Native.Nat.{ℕ, suc, _≤_, _<_}
 use native.Mathlib.Omega.{arith}
 use lib.ListN.{length, getD, take, length-map}
 use Rattle.network.specs.Lists.{All}
-use Rattle.network.specs.Plane.{Point, Run}
+use Rattle.network.specs.Plane.{Run}
 use Rattle.network.specs.Grid.{Grid}
 use Rattle.network.specs.Hanan.{hanan}
-use Rattle.network.specs.Route.{Route, Manhattan, Routes}
+use Rattle.network.specs.Route.{Route, Routes}
 use Rattle.network.specs.Graph.{meets}
-use Rattle.network.specs.Corners.{straightOn, cornersFrom, corners}
+use Rattle.network.specs.Corners.{corners}
 use Rattle.groups.specs.Groups.{centreOf}
 use Rattle.network.proofs.Counting.{routes-length}
-use Rattle.network.proofs.Turns.{Moves}
+use Rattle.network.proofs.Corners.{TwoPoints, corners-two}
 use Rattle.job.specs.declared.Run.{Run as Read}
 use Rattle.job.specs.Written.{Bytes, WellFormed}
 use Rattle.plan.specs.Plan.{entriesFrom, meetsOf, centreFigure, drawnBytes, planBytes}
@@ -32,42 +32,26 @@ use Rattle.planner.specs.Outcome.{Outcome}
 use Rattle.planner.specs.Demands.{JobIn, Leaves}
 use Rattle.planner.specs.Figures.{planHead, planEntries}
 use Rattle.planner.specs.Stored.{ReadBack}
-use Rattle.planner.proofs.Fits.{runs-move, corners-in, head-fits, few-lines, number-bounded, meets-most}
+use Rattle.planner.proofs.Fits.{runs-apart, corners-in, head-fits, few-lines, number-bounded, meets-most}
 use Rattle.planner.proofs.Demands.{plan-front, demands}
-
--- the corners of a route behind its first point are some: its end is one
-corners-end : (p q : Point) (l : List Point) → 0 < length (cornersFrom p q l)
-corners-end p q [] = omega arith
-corners-end p q (r ∷ l) = go (straightOn p q r) (corners-end p r l)
-  where
-    go : (b : Bool) → 0 < length (cornersFrom p r l)
-        → 0 < length {A = Point} (elim b as (λ u. List Point) [ true ↦ cornersFrom p r l | false ↦ q ∷ cornersFrom q r l ])
-    go true h = h
-    go false h = omega arith
-
--- a Manhattan route between two points has two corners or more
-corners-two : (g : Grid) (run : Run) (route : Route) → Moves run → Manhattan g run route → 2 ≤ length (corners route)
-corners-two g run [] moves m = absurd (m .starts)
-corners-two g run (p ∷ []) moves m = absurd (moves (sym (m .starts) ∙ m .ends))
-corners-two g run (p ∷ q ∷ l) moves m = omega (arith, corners-end p q l)
 
 -- the entries of Manhattan routes are right, where their figures fit, and their corners are in range and few
 entries-right : (number meets centre : ℕ → ℕ) → ((i : ℕ) → number i < 65536) → ((i : ℕ) → meets i < 65536) → ((i : ℕ) → centre i < 65536)
     → (g : Grid) (runs : List Run) (routes : List Route)
-    → All Moves runs → Routes g runs routes → All (All PointIn) (map corners routes) → All (λ c. length c ≤ 127) (map corners routes) → (i : ℕ)
+    → All TwoPoints runs → Routes g runs routes → All (All PointIn) (map corners routes) → All (λ c. length c ≤ 127) (map corners routes) → (i : ℕ)
     → All (RightEntry true) (entriesFrom number meets centre i (map corners routes))
-entries-right number meets centre h k l g [] [] moves m inside few i = tt
-entries-right number meets centre h k l g (run ∷ runs) (route ∷ routes) moves m inside few i = (
+entries-right number meets centre h k l g [] [] two m inside few i = tt
+entries-right number meets centre h k l g (run ∷ runs) (route ∷ routes) two m inside few i = (
   record {
     number-fits = h i;
     meets-fits = k i;
     centre-fits = l i;
-    some = omega (arith, corners-two g run route (moves .0) (m .0));
+    some = omega (arith, corners-two g run route (two .0) (m .0));
     few = few .0;
     in-range = inside .0;
-    turning = corners-turning g run route (moves .0) (m .0);
+    turning = corners-turning g run route (two .0) (m .0);
   },
-  entries-right number meets centre h k l g runs routes (moves .1) (m .1) (inside .1) (few .1) (suc i),
+  entries-right number meets centre h k l g runs routes (two .1) (m .1) (inside .1) (few .1) (suc i),
 )
 
 -- Every plan of a well-formed job is a right book.
@@ -84,8 +68,8 @@ plan-right number runs w routes m =
       entries =
           entries-right (λ i. getD (numbersOf runs) i 0) (meetsOf (runsOf runs)) (centreFigure (numbersOf runs) (runsOf runs))
           (λ i. omega (arith, number-bounded runs (w .in-range) i)) (λ i. omega (arith, meets-most runs i, w .most))
-          (λ i. omega (arith, number-bounded runs (w .in-range) (centreOf (meets g (runsOf runs)) (length (runsOf runs)) i))) g (runsOf runs) routes (runs-move runs (w .apart)) m (corners-in runs (w .in-range) routes m)
-          (routes-few g (l .0) (l .1) (runsOf runs) routes (runs-move runs (w .apart)) m) 0;
+          (λ i. omega (arith, number-bounded runs (w .in-range) (centreOf (meets g (runsOf runs)) (length (runsOf runs)) i))) g (runsOf runs) routes (runs-apart runs (w .apart)) m (corners-in runs (w .in-range) routes m)
+          (routes-few g (l .0) (l .1) (runsOf runs) routes (runs-apart runs (w .apart)) m) 0;
     }
 
 -- A plan that the planner wrote is accepted by the reader, and what is read is what was written.

@@ -31,7 +31,7 @@ use Rattle.planner.specs.Call.{runsOf, numbersOf, planOf}
 use Rattle.planner.specs.Held.{runsIn, Held}
 use Rattle.planner.specs.Stages.{Lined, ownOf}
 use Rattle.planner.proofs.Held.{length-held, length-plane, held-few, numbers-held}
-use Rattle.planner.proofs.Fits.{runs-move, few-lines, distances-bounded}
+use Rattle.planner.proofs.Fits.{runs-apart, few-lines, distances-bounded}
 
 all-imp : {A : Type 0} (P Q : A → Type 0) → ((a : A) → P a → Q a) → (l : List A) → All P l → All Q l
 all-imp P Q f [] a = tt
@@ -134,4 +134,4 @@ module _ (j : Job) (h : Held j) (laid : Layout) (L : LaidOut (runsOf (runsIn j))
     bytes-fit =
         rw bytes-are
         (plan-most (j .number) (numbersOf (runsIn j)) runs (drawnBy runs laid) (omega (arith, length-plane j, held-few j h)) (lines-few .0) (lines-few .1)
-        (runs-move (runsIn j) (h .well-formed .apart)) (L .best .least .are-routes))
+        (runs-apart (runsIn j) (h .well-formed .apart)) (L .best .least .are-routes))

@@ -1,4 +1,4 @@
--- A Manhattan route has few corners: fewer than the grid has columns and rows together. It has the corners of a list of steps in its run's frame, and a step is
+-- A Manhattan route between two points has few corners: fewer than the grid has columns and rows together. It has the corners of a list of steps in its run's frame, and a step is
 -- one turn at most.
 use mathlib.Core.Path.{sym, ap, _∙_}
 use Prim.Native.Nat.{_+_, _<_}
@@ -11,15 +11,16 @@ use Rattle.network.specs.Steps.{spot}
 use Rattle.network.specs.Corners.{corners}
 use Rattle.network.proofs.Counting.{route-frame}
 use Rattle.network.proofs.StepCounts.{steps-all}
-use Rattle.network.proofs.Turns.{Moves, to-turns}
+use Rattle.network.proofs.Corners.{TwoPoints}
+use Rattle.network.proofs.Turns.{to-turns}
 use Rattle.route.proofs.Lanes.{fits-few}
 use Rattle.route.proofs.Turns.{turns-length, corners-turns}
 
 -- at most 127 on 64 columns and 64 rows
-pub manhattan-few : (g : Grid) (run : Run) (route : Route) → Moves run → Manhattan g run route → length (corners route) < length (g .columns) + length (g .rows)
-manhattan-few g run route moves m =
+pub manhattan-few : (g : Grid) (run : Run) (route : Route) → TwoPoints run → Manhattan g run route → length (corners route) < length (g .columns) + length (g .rows)
+manhattan-few g run route two m =
     let (X, Y, f) = route-frame g run route m in
-    let t = to-turns g run X Y f moves route m in
+    let t = to-turns g run X Y f two route m in
     let c = t .complete in
     omega (
       arith,

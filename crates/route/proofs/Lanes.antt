@@ -1,14 +1,12 @@
--- Lanes on a list of lines: where they start and go on, that their lines are lines of the list, and that they keep them apart.
+-- Lanes on a list of lines: where they start and go on, and that their lines are lines of the list.
 use mathlib.Core.Path.{_≡_, refl}
 use mathlib.Core.Bool.{Bool, true, false}
 use mathlib.Core.List.{List}
-use Prim.Native.Nat.{ℕ, suc, _+_, _-_, _≤_, _<_}
+use Prim.Native.Nat.{ℕ, suc, _≤_, _<_}
 use native.Mathlib.Omega.{arith}
-use lib.ListN.{length, getD}
-use Rattle.network.specs.Grid.{Rising}
+use lib.ListN.{length}
 use Rattle.network.specs.Graph.{below}
 use Rattle.network.specs.Steps.{hor, ver, steps, Lane, forth, back, extent, at, Fits}
-use Rattle.network.proofs.Rising.{one-index}
 use Rattle.network.proofs.Lanes.{at-fits}
 use Rattle.route.specs.declared.Route.{Route}
 use Rattle.route.specs.Route.{stepsOf, lane, columnsOf, rowsOf}
@@ -24,11 +22,6 @@ fits-few l (back a n) f = omega arith
 pub fits-more : (l k : List ℕ) (X : Lane) → length l ≤ length k → Fits l X → Fits k X
 fits-more l k (forth a n) h f = omega arith
 fits-more l k (back a n) h f = omega arith
-
--- two of its lines are apart
-pub lane-apart : (l : List ℕ) → Rising l → (X : Lane) → Fits l X → (i k : ℕ) → i < k → k ≤ extent X → getD l (at X i) 0 ≡ getD l (at X k) 0 → ⊥
-lane-apart l r (forth a n) f i k h m e = omega (arith, one-index l r (a + i) (a + k) (omega arith) (omega arith) e)
-lane-apart l r (back a n) f i k h m e = omega (arith, one-index l r (a - i) (a - k) (omega arith) (omega arith) e)
 
 -- ---- n steps from line a, to higher indexes or to lower ones
 

@@ -14,7 +14,7 @@ use Rattle.network.specs.Grid.{Grid}
 use Rattle.network.specs.Steps.{Dir, hor, ver, steps, Lane, extent, at, Fits, spot, drawFrom, drawn}
 use Rattle.network.specs.Corners.{straightOn, cornersFrom, corners}
 use Rattle.network.proofs.Corners.{corner-on, corner-at}
-use Rattle.route.proofs.Lanes.{lane-apart}
+use Rattle.network.proofs.Lanes.{lane-apart}
 use Rattle.route.specs.Walker.{headingOf}
 
 -- a vertex that is passed: it stands in front of the list where the way turns there
