@@ -411,13 +411,18 @@ fn any_wrong(random: &mut Random, number: i32) -> i32 {
     wrong(random, number)
 }
 
-/// One run with such a number in place of its own.
-fn wrong_number(random: &mut Random, wrong: fn(&mut Random, i32) -> i32) -> (Vec<i32>, Made) {
+/// A list of which one run is made wrong in a way that has this number.
+fn one_wrong(random: &mut Random, number: i32, spoil: impl FnOnce(&mut Random, &mut [i32], usize)) -> (Vec<i32>, Made) {
     let runs = some_runs(random, 1);
     let mut list = whole(random, runs);
     let run = random.below(runs);
-    list[RUN_NUMBERS * run] = wrong(random, list[RUN_NUMBERS * run]);
-    (list, refused(7, run))
+    spoil(random, &mut list, run);
+    (list, refused(number, run))
+}
+
+/// One run with such a number in place of its own.
+fn wrong_number(random: &mut Random, wrong: fn(&mut Random, i32) -> i32) -> (Vec<i32>, Made) {
+    one_wrong(random, 7, |random, list, run| list[RUN_NUMBERS * run] = wrong(random, list[RUN_NUMBERS * run]))
 }
 
 /// One run with the number before it once more, or a lower one.
@@ -455,27 +460,23 @@ fn spoil_coordinate(random: &mut Random, list: &mut [i32], run: usize) {
 }
 
 fn coordinate(random: &mut Random) -> (Vec<i32>, Made) {
-    let runs = some_runs(random, 1);
-    let mut list = whole(random, runs);
-    let run = random.below(runs);
-    spoil_coordinate(random, &mut list, run);
-    (list, refused(8, run))
+    one_wrong(random, 8, spoil_coordinate)
+}
+
+/// The coordinates of a run.
+fn points_of(list: &mut [i32], run: usize) -> &mut [i32] {
+    &mut list[RUN_NUMBERS * run + 1..RUN_NUMBERS * (run + 1)]
 }
 
 /// All coordinates of a run outside their range.
 fn coordinates_of_run(random: &mut Random) -> (Vec<i32>, Made) {
-    let runs = some_runs(random, 1);
-    let mut list = whole(random, runs);
-    let run = random.below(runs);
-    list[RUN_NUMBERS * run + 1..RUN_NUMBERS * (run + 1)].fill_with(|| outside(random));
-    (list, refused(8, run))
+    one_wrong(random, 8, |random, list, run| points_of(list, run).fill_with(|| outside(random)))
 }
 
 /// Puts both points of a run on one of them.
 fn spoil_points(random: &mut Random, list: &mut [i32], run: usize) {
-    let points = &mut list[RUN_NUMBERS * run + 1..RUN_NUMBERS * (run + 1)];
     let from = 2 * random.below(2);
-    points.copy_within(from..from + 2, 2 - from);
+    points_of(list, run).copy_within(from..from + 2, 2 - from);
 }
 
 /// A run whose points coincide.
@@ -490,14 +491,12 @@ fn nowhere(random: &mut Random) -> (Vec<i32>, Made) {
 
 /// A run whose points coincide outside their range.
 fn nowhere_outside(random: &mut Random) -> (Vec<i32>, Made) {
-    let runs = some_runs(random, 1);
-    let mut list = whole(random, runs);
-    let run = random.below(runs);
-    spoil_coordinate(random, &mut list, run);
-    let points = &mut list[RUN_NUMBERS * run + 1..RUN_NUMBERS * (run + 1)];
-    let from = if points[..2].iter().all(|value| (-FAR..=FAR).contains(value)) { 2 } else { 0 };
-    points.copy_within(from..from + 2, 2 - from);
-    (list, refused(8, run))
+    one_wrong(random, 8, |random, list, run| {
+        spoil_coordinate(random, list, run);
+        let points = points_of(list, run);
+        let from = if points[..2].iter().all(|value| (-FAR..=FAR).contains(value)) { 2 } else { 0 };
+        points.copy_within(from..from + 2, 2 - from);
+    })
 }
 
 /// Leaves out 1 to 4 of the last numbers, or adds as many.
@@ -531,12 +530,10 @@ type Spoil = fn(&mut Random, &mut [i32], usize);
 
 /// A run whose number is wrong, and something else besides.
 fn number_and(random: &mut Random, spoil: Spoil) -> (Vec<i32>, Made) {
-    let runs = some_runs(random, 1);
-    let mut list = whole(random, runs);
-    let run = random.below(runs);
-    spoil_number(random, &mut list, run);
-    spoil(random, &mut list, run);
-    (list, refused(7, run))
+    one_wrong(random, 7, |random, list, run| {
+        spoil_number(random, list, run);
+        spoil(random, list, run);
+    })
 }
 
 /// Two runs that are wrong: the first is told, with this number.
