@@ -113,7 +113,8 @@ enum trench_refusal {
  *
  * Accepted: the plan book fills the first bytes of `out`, as many as the answer says; no later byte is changed. Every route
  * runs from its run's first point to its second along survey lines and is as long as their Manhattan distance; `trench` is
- * the length of the routes' union, and no routes for these runs on the survey lines have a shorter one, all groups together.
+ * the length of the routes' union, and no routes for these runs on the survey lines have a shorter one, all groups together;
+ * nor have any paths of whole decimetres off the survey lines that are as long as their runs' Manhattan distances.
  * The two points of a run differ, so every route has two corners or more.
  * A job without runs has no group, and a plan of 22 bytes: a head whose figures are all 0, no route, and an end.
  * Refused: no byte of `out` is changed. The bytes of `job` are never changed.

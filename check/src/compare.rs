@@ -160,6 +160,12 @@ pub fn crossed_case(seed: u64, n: u64) -> Case {
     Case { bytes: job_bytes(&job), made_wrong: None, what: format!("crossed star {crossing:?}") }
 }
 
+/// The n-th small job of a seed with room between its survey lines.
+pub fn roomy_case(seed: u64, n: u64) -> Case {
+    let job = generate::roomy(&mut Random::nth(seed, n));
+    Case { bytes: job_bytes(&job), made_wrong: None, what: "room between the lines".to_string() }
+}
+
 /// What is due for a job: a plan that the judge passes, or a refusal.
 type Due = Result<Judge, Refusal>;
 

@@ -1,5 +1,5 @@
 //! Stars of every kind, from a seed: built leaf by leaf on a small lattice, which is then stretched to other coordinates; stars in
-//! which cables cross; and jobs with no design.
+//! which cables cross; jobs with no design, among them small ones with room between their survey lines.
 
 use crate::job::{Area, FAR, Job, MOST_RUNS, Point, Run, TOP_NUMBER};
 use crate::random::Random;
@@ -477,12 +477,29 @@ pub fn any(random: &mut Random) -> Job {
     let count = if random.once_in(4) { random.below(MOST_RUNS + 1) } else { random.below(5) };
     let reach = *random.pick(&[2, 4, 8, 100, FAR]);
     let point = |random: &mut Random| Point::new(random.from(-reach, reach), random.from(-reach, reach));
-    let run = |random: &mut Random| loop {
+    let points: Vec<(Point, Point)> = (0..count).map(|_| apart(random, point)).collect();
+    numbered(random, &points)
+}
+
+/// Two different points made in this way.
+fn apart(random: &mut Random, point: impl Fn(&mut Random) -> Point) -> (Point, Point) {
+    loop {
         let (first, second) = (point(random), point(random));
         if first != second {
             return (first, second);
         }
-    };
-    let points: Vec<(Point, Point)> = (0..count).map(|_| run(random)).collect();
-    numbered(random, &points)
+    }
+}
+
+/// Up to 5 runs with no design on a few columns and rows, with room between these, in a square of at most 8 x 8 whole-decimetre points:
+/// so small that all paths of unit steps can often be tried. They are numbered 1, 2, 3.
+pub fn roomy(random: &mut Random) -> Job {
+    let reach = random.from(5, 7);
+    let [columns, rows] = [0; 2].map(|_| {
+        let lines = 3 + random.below(3);
+        random.rising(lines, 0, reach)
+    });
+    let point = |random: &mut Random| Point::new(*random.pick(&columns), *random.pick(&rows));
+    let points: Vec<(Point, Point)> = (0..1 + random.below(5)).map(|_| apart(random, point)).collect();
+    numbered_from_1(&points)
 }

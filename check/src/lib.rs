@@ -1,7 +1,7 @@
 //! A second reading of documents 000 (geometry), 01 (bytes, limits, order) and 02 (later requests), which shares no code with
 //! the proved planner: an independent planner of leases, a reader and a judge of plans, the choice between two of them, a writer of
-//! jobs, generators of jobs, of plan books, of lists of runs and of pairs of plan books, and the comparison of a planner, a reader, a
-//! writer and a chooser with all of these.
+//! jobs, the least of all cuts on survey lines or not, generators of jobs, of plan books, of lists of runs and of pairs of plan books,
+//! and the comparison of a planner, a reader, a writer and a chooser with all of these.
 
 #![forbid(unsafe_code)]
 
@@ -12,6 +12,7 @@ pub mod cases;
 pub mod choice;
 pub mod choose;
 pub mod compare;
+pub mod cuts;
 pub mod damage;
 pub mod edges;
 pub mod enumerate;

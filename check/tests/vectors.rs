@@ -1,5 +1,6 @@
 //! What the proved programs must print of job books is what is found here: of each what reading says, and what a least plan of it has.
 
+use trench_check::cuts::Tried;
 use trench_check::planner;
 use trench_check::refusal::{read, verdict};
 
@@ -37,10 +38,10 @@ fn job_books_that_are_read() {
 
 /// Six calls of the planner: with work words and plan buffer that are long enough, twice; with too few words; with too short a buffer;
 /// and by the map screen's function with both lengths of buffer. A plan is told by groups, trench, saved, and each run's meets and
-/// centre, which are the same in all least plans.
+/// centre, which are the same in all least plans. The trench of small jobs is the least of all cuts, on survey lines or not.
 #[test]
 fn job_books_that_are_planned() {
-    let (mut planned, mut nowhere) = (0, 0);
+    let (mut planned, mut nowhere, mut cut) = (0, 0, Tried::default());
     for (label, bytes, printed) in vectors("planner") {
         let (lent, own) = match verdict(&bytes) {
             Err(refused) => {
@@ -50,6 +51,7 @@ fn job_books_that_are_planned() {
             Ok(job) => {
                 planned += 1;
                 let plan = planner::plan(&job).expect("stars");
+                cut.hold(&job, plan.trench);
                 let runs = plan.meets.iter().zip(&plan.centres);
                 let runs: String = runs.map(|(meets, &c)| format!("{meets} {}, ", job.runs[c].number)).collect();
                 let told = format!("{} {} {} : {runs}kept", plan.groups, plan.trench, plan.saved);
@@ -59,4 +61,11 @@ fn job_books_that_are_planned() {
         assert_eq!(printed, format!("{label} | {lent} | {lent} | 1 0 kept | 2 0 kept | {own} | 2 kept"));
     }
     assert!(planned > 1_300 && nowhere > 15, "plans, and jobs with a run that goes nowhere: {planned} {nowhere}");
+    assert!(cut.faults.is_empty(), "{:?}", cut.faults);
+    assert!(
+        cut.with_room > 100 && cut.shared > 50,
+        "small jobs with room between their lines: {} {}",
+        cut.with_room,
+        cut.shared
+    );
 }

@@ -9,8 +9,9 @@ use trench_check::book;
 use trench_check::book_damage;
 use trench_check::cases;
 use trench_check::choice::{self, choose, told};
+use trench_check::cuts;
 use trench_check::damage::{self, Damaged};
-use trench_check::enumerate;
+use trench_check::enumerate::{self, Least};
 use trench_check::generate::{self, CROSSINGS, KINDS};
 use trench_check::graph::Survey;
 use trench_check::grouped;
@@ -202,12 +203,14 @@ fn print_grouped(words: &str) -> Result<(), String> {
 
 fn figures(job: &Job) -> String {
     let survey = Survey::of(job.clone());
+    let trench = |least: Option<Least>| least.map(|least| least.trench);
     let ways = [
-        ("all", enumerate::all(job, &survey.grid, SEQUENCES)),
-        ("each", group_by_group(&survey, |runs, grid, centre| enumerate::each(runs, grid, centre, SEQUENCES))),
-        ("graph", group_by_group(&survey, |runs, grid, centre| Some(in_out::least(runs, grid, centre)))),
+        ("all", trench(enumerate::all(job, &survey.grid, SEQUENCES))),
+        ("each", trench(group_by_group(&survey, |runs, grid, centre| enumerate::each(runs, grid, centre, SEQUENCES)))),
+        ("graph", trench(group_by_group(&survey, |runs, grid, centre| Some(in_out::least(runs, grid, centre))))),
+        ("cuts", cuts::least(job, SEQUENCES)),
     ];
-    let ran: Vec<(&str, i64)> = ways.iter().filter_map(|(name, least)| Some((*name, least.as_ref()?.trench))).collect();
+    let ran: Vec<(&str, i64)> = ways.iter().filter_map(|&(name, trench)| Some((name, trench?))).collect();
     assert!(ran.windows(2).all(|pair| pair[0].1 == pair[1].1), "the ways disagree: {ran:?} for {}", line::show(job));
     let (trench, saved) = match ran.first() {
         Some((_, trench)) => (trench.to_string(), (job.distance() - trench).to_string()),

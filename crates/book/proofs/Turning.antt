@@ -14,7 +14,7 @@ use Rattle.network.specs.Plane.{Point, Run, _to_}
 use Rattle.network.specs.Grid.{Grid}
 use Rattle.network.specs.Route.{Route, piecesFrom, Straight, Manhattan}
 use Rattle.network.specs.Corners.{straightOn, cornersFrom, corners}
-use Rattle.network.proofs.Numbers.{Between, rise, fall}
+use Rattle.network.proofs.Numbers.{between-same}
 use Rattle.network.proofs.Lanes.{point-path}
 use Rattle.network.proofs.Monotone.{Towards, towards-first, towards-trans, Monotone, monotone}
 use Rattle.network.proofs.Joining.{On-line, line-straight}
@@ -50,14 +50,9 @@ turn p q r s t n = (
 
 -- ---- straight on
 
--- on the way from a number back to it lies no other
-between-same : {a b c : ℕ} → Between a b c → a ≡ c → a ≡ b
-between-same (rise u v) e = omega arith
-between-same (fall u v) e = omega arith
-
--- the same of points
+-- on the way from a point back to it lies no other
 towards-same : (p q r : Point) → Towards p q r → p ≡ r → p ≡ q
-towards-same p q r t e = point-path (between-same (t .in-x) (ap (λ o. o .x) e)) (between-same (t .in-y) (ap (λ o. o .y) e))
+towards-same p q r t e = e ∙ sym (point-path (between-same (t .in-x) (ap (λ o. o .x) e)) (between-same (t .in-y) (ap (λ o. o .y) e)))
 
 -- a turn from o over p to q is one to r, where the way goes straight on from q to r
 turn-on : (o p q r : Point) → Towards p q r → On-line p q r → Turning (o ∷ p ∷ q ∷ []) → Turning (o ∷ p ∷ r ∷ [])

@@ -13,7 +13,7 @@ use Rattle.network.specs.Plane.{Run}
 use Rattle.network.specs.Grid.{Grid}
 use Rattle.network.specs.Hanan.{hanan}
 use Rattle.network.specs.Route.{Route, on}
-use Rattle.network.specs.Pits.{among}
+use Rattle.network.specs.Passes.{among}
 use Rattle.network.specs.Steps.{Dir, hor, ver, vertex}
 use Rattle.network.proofs.Lists.{any-append, getD-nothing}
 use Rattle.grid.specs.Runs.{runsHeld}

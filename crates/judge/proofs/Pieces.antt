@@ -12,7 +12,7 @@ use Rattle.network.specs.Plane.{Point, Run, distance, _to_, samePoint}
 use Rattle.network.specs.Grid.{Edge}
 use Rattle.network.specs.Route.{Route, pieces, piecesFrom, lastFrom, lies, on}
 use Rattle.network.specs.Graph.{origin}
-use Rattle.network.specs.Pits.{among}
+use Rattle.network.specs.Passes.{among}
 use Rattle.network.proofs.Sums.{sum-append}
 use Rattle.network.proofs.Lists.{any-append}
 use Rattle.network.proofs.Lanes.{point-path}

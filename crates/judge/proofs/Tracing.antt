@@ -12,7 +12,7 @@ use Rattle.network.specs.Plane.{Point, Run, _to_, samePoint}
 use Rattle.network.specs.Grid.{Grid, Edge}
 use Rattle.network.specs.Route.{Route, Vertex as IsVertex, Straight, lies, on}
 use Rattle.network.specs.Graph.{origin}
-use Rattle.network.specs.Pits.{among}
+use Rattle.network.specs.Passes.{among}
 use Rattle.network.specs.Steps.{hor, ver, vertex}
 use Rattle.network.proofs.Tests.{and-split, and-join, is-false, same-test}
 use Rattle.network.proofs.Lists.{every-true, index-member}

@@ -11,7 +11,7 @@ use Rattle.network.specs.Grid.{Grid}
 use Rattle.network.specs.Hanan.{hanan}
 use Rattle.network.specs.Route.{Route, pieces, Straight, on}
 use Rattle.network.specs.Graph.{meets, origin, runAt, below}
-use Rattle.network.specs.Pits.{among}
+use Rattle.network.specs.Passes.{among}
 use Rattle.network.specs.Steps.{hor, ver, vertex}
 use Rattle.groups.specs.Groups.{groupCount}
 use Rattle.job.specs.declared.Job.{Job}

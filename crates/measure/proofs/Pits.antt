@@ -16,8 +16,8 @@ use Rattle.network.specs.Plane.{Point, Run, _to_, samePoint}
 use Rattle.network.specs.Grid.{Rising, Grid, Edge}
 use Rattle.network.specs.Route.{Route, piecesFrom, pieces, level, Listed, Vertex, on, lies}
 use Rattle.network.specs.Steps.{Dir, hor, ver, vertex}
-use Rattle.network.specs.Pits.{among, amid, passesRow, passesColumn, pitPoints, pitsOf}
-use Rattle.network.specs.Passes.{passes}
+use Rattle.network.specs.Pits.{amid, passesRow, passesColumn, pitPoints, pitsOf}
+use Rattle.network.specs.Passes.{among, passes}
 use Rattle.network.proofs.Tests.{and-split, and-join, neither, same-test, true-level, Spans, lies-true, true-lies}
 use Rattle.network.proofs.Lists.{any-true, true-any, any-false, all-member}
 use Rattle.network.proofs.Numbers.{order}

@@ -11,7 +11,7 @@ use Rattle.network.specs.Grid.{Grid, Edge, len, acrossAt, upwardAt}
 use Rattle.network.specs.Graph.{below}
 use Rattle.network.specs.Route.{Route, on, unionLength}
 use Rattle.network.specs.Steps.{Dir, hor, ver}
-use Rattle.network.proofs.Sums.{sum-swap, sumTo, sum-below, sumTo-cong, sumTo-zero, double-cong}
+use Rattle.network.proofs.Sums.{sum-swap, sumTo, sum-below, sumTo-cong, sumTo-zero, sumTo-add, double-cong}
 use Rattle.network.proofs.Edges.{sum-edges}
 use Rattle.grid.specs.Lines.{lengthAt}
 use Rattle.grid.proofs.Places.{across-length, upward-length}
@@ -27,12 +27,7 @@ sum-cells n m f =
     ∙ sum-below (λ i. sum (f i) (below m)) n
     ∙ sumTo-cong n (λ i. sum (f i) (below m)) (λ i. sumTo m (f i)) (λ i h. sum-below (f i) m)
 
--- the sum of two
-sumTo-add : (n : ℕ) (f g : ℕ → ℕ) → sumTo n (λ i. f i + g i) ≡ sumTo n f + sumTo n g
-sumTo-add zero f g = refl
-sumTo-add (suc n) f g = omega (arith, sumTo-add n f g)
-
--- of two double sums
+-- the sum of two double sums
 double-add : (n m : ℕ) (f g : ℕ → ℕ → ℕ) → sumTo n (λ i. sumTo m (λ j. f i j + g i j)) ≡ sumTo n (λ i. sumTo m (f i)) + sumTo n (λ i. sumTo m (g i))
 double-add n m f g =
     sumTo-cong n (λ i. sumTo m (λ j. f i j + g i j)) (λ i. sumTo m (f i) + sumTo m (g i)) (λ i h. sumTo-add m (f i) (g i))

@@ -11,7 +11,7 @@ use Rattle.network.specs.Plane.{Point, _to_}
 use Rattle.network.specs.Grid.{Grid, Edge, acrossAt, upwardAt}
 use Rattle.network.specs.Route.{Route, Straight, Vertex as IsVertex, lies, on}
 use Rattle.network.specs.Steps.{Dir, hor, ver, vertex}
-use Rattle.network.specs.Pits.{among}
+use Rattle.network.specs.Passes.{among}
 use Rattle.grid.specs.Lines.{RisingTo}
 use Rattle.route.specs.Route.{Tables}
 use Rattle.route.specs.declared.Vertex.{Vertex}

@@ -16,6 +16,7 @@ use Rattle.network.specs.Route.{piecesFrom, Route, Vertex, Straight, Man
 use Rattle.network.specs.Excess.{excess}
 use Rattle.network.specs.Corners.{straightOn, cornersFrom, corners}
 use Rattle.network.proofs.Tests.{and-split, and-join, or-split, or-join}
+use Rattle.network.proofs.Lists.{paired-map}
 use Rattle.network.proofs.Edges.{OfGrid, edges-cong}
 use Rattle.network.proofs.Monotone.{towards-trans, towards-first, Monotone, monotone, manhattan-of}
 use Rattle.network.proofs.Counting.{counting}
@@ -170,8 +171,7 @@ same-corners g run p q m n s e o = sym (corners-on g run p m e o) ∙ ap (on e) 
 
 -- they are Manhattan routes of the same runs
 pub corners-routes : (g : Grid) (runs : List Run) (routes : List Route) → Routes g runs routes → Routes g runs (map corners routes)
-corners-routes g [] [] m = m
-corners-routes g (run ∷ runs) (route ∷ routes) m = (corners-manhattan g run route (m .0), corners-routes g runs routes (m .1))
+corners-routes g runs routes m = paired-map (Manhattan g) (Manhattan g) corners runs routes (λ run route o. corners-manhattan g run route) m
 
 -- as many of them are on an edge
 corners-count : (g : Grid) (runs : List Run) (routes : List Route) → Routes g runs routes → (e : Edge) → OfGrid g e

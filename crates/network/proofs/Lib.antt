@@ -14,6 +14,7 @@ pub mod StepCounts
 pub mod Drawn
 pub mod Counting
 pub mod Corners
+pub mod Repeats
 pub mod Points
 pub mod Pits
 pub mod Moved

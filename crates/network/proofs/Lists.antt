@@ -7,7 +7,7 @@ use Prim.Native.Nat.{ℕ, zero, suc, _≤_, _<_}
 use native.Mathlib.Nat.{eq-or-lt-of-le}
 use native.Mathlib.Omega.{arith}
 use lib.ListN.{length, getD, replicate}
-use Rattle.network.specs.Lists.{any, every, All, select, each}
+use Rattle.network.specs.Lists.{any, every, All, Paired, select, each}
 use Rattle.network.proofs.Tests.{and-split, and-join, or-split, or-join, neither}
 
 -- where some element passes a test there is one that does, and back
@@ -190,3 +190,33 @@ pub flatMap-map : {A B C D : Type 0} (P : A → Type 0) (f : A → B) (m : C →
 unfolding flatMap
 flatMap-map P f m s t h [] a = refl
 flatMap-map P f m s t h (x ∷ l) a = ap₂ _++_ (h x (a .0)) (flatMap-map P f m s t h l (a .1)) ∙ sym (map-append m (s x) (flatMap s l))
+
+-- ---- mapped lists
+
+-- some element of a mapped list
+pub any-map : {A B : Type 0} (t : B → Bool) (f : A → B) (l : List A) → any t (map f l) ≡ any (λ a. t (f a)) l
+any-map t f [] = refl
+any-map t f (a ∷ l) = ap (λ b. t (f a) || b) (any-map t f l)
+
+-- what holds of all in turn holds of what they are mapped to
+pub all-map : {A B : Type 0} (P : A → Type 0) (Q : B → Type 0) (f : A → B) → ((a : A) → P a → Q (f a)) → (l : List A) → All P l → All Q (map f l)
+all-map P Q f h [] a = tt
+all-map P Q f h (x ∷ l) a = (h x (a .0), all-map P Q f h l (a .1))
+
+-- and what follows from it holds of themselves
+pub all-imp : {A : Type 0} (P Q : A → Type 0) → ((a : A) → P a → Q a) → (l : List A) → All P l → All Q l
+all-imp P Q h [] a = tt
+all-imp P Q h (x ∷ l) a = (h x (a .0), all-imp P Q h l (a .1))
+
+-- ---- two lists of one length
+
+-- what holds of pairs in turn holds of them with the second mapped
+pub paired-map : {A B C : Type 0} (P : A → B → Type 0) (Q : A → C → Type 0) (f : B → C) (l : List A) (k : List B)
+    → ((a : A) (b : B) → Member a l → P a b → Q a (f b)) → Paired P l k → Paired Q l (map f k)
+paired-map P Q f [] [] h p = tt
+paired-map P Q f (a ∷ l) (b ∷ k) h p = (h a b (here refl) (p .0), paired-map P Q f l k (λ c d m. h c d (there m)) (p .1))
+
+-- or of the second alone
+pub paired-all : {A B : Type 0} (P : A → B → Type 0) (Q : B → Type 0) (l : List A) (k : List B) → ((a : A) (b : B) → P a b → Q b) → Paired P l k → All Q k
+paired-all P Q [] [] h p = tt
+paired-all P Q (a ∷ l) (b ∷ k) h p = (h a b (p .0), paired-all P Q l k h (p .1))

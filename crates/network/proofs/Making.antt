@@ -2,12 +2,12 @@
 use mathlib.Core.Path.{_≡_, refl, sym, ap, _∙_, subst, subst₂}
 use mathlib.Core.Logic.{inl, inr}
 use mathlib.Core.List.{List, [], _∷_, _++_}
-use mathlib.Core.Bool.{Bool, _||_, or-assoc}
+use mathlib.Core.Bool.{_||_}
 use Prim.Native.Nat.{ℕ}
 use native.Mathlib.Omega.{arith}
-use Rattle.network.specs.Lists.{any, All}
-use Rattle.network.proofs.Lists.{all-append}
-use Rattle.network.specs.Plane.{Point, Run, _to_}
+use Rattle.network.specs.Lists.{any}
+use Rattle.network.proofs.Lists.{any-append, all-append}
+use Rattle.network.specs.Plane.{Point, _to_}
 use Rattle.network.specs.Grid.{Grid, Edge}
 use Rattle.network.specs.Route.{Route, piecesFrom, lastFrom, Vertex, Straight, Manhattan, on, lies}
 use Rattle.network.proofs.Numbers.{Between, rise, fall, between-here, between-there}
@@ -62,21 +62,20 @@ abbrev pub endToEnd : Route → Route → Route
 endToEnd p [] = p
 endToEnd p (b ∷ k) = p ++ k
 
-module _ (b z : Point) (k : List Point) where
-  -- straight pieces followed by straight pieces are straight
-  straight-append : (a : Point) (l : List Point) → lastFrom a l ≡ b → All Straight (piecesFrom a l) → All Straight (piecesFrom b k) → All Straight (piecesFrom a (l ++ k))
-  straight-append a [] e f h = subst (λ q. All Straight (piecesFrom q k)) (sym e) h
-  straight-append a (q ∷ l) e f h = (f .0, straight-append q l e (f .1) h)
+-- the pieces of a walk that goes on where another ends stand behind the other's
+pub pieces-append : (a b : Point) (l k : List Point) → lastFrom a l ≡ b → piecesFrom a (l ++ k) ≡ piecesFrom a l ++ piecesFrom b k
+pieces-append a b [] k e = ap (λ q. piecesFrom q k) e
+pieces-append a b (q ∷ l) k e = ap (λ t. (a to q) ∷ t) (pieces-append q b l k e)
 
-  -- two monotone walks end to end are one
-  monotone-append : (a : Point) (l : List Point) → Monotone a l b → Towards a b z → Monotone b k z → Monotone a (l ++ k) z
-  monotone-append a [] f t h = subst (λ q. Monotone q k z) (sym f) h
-  monotone-append a (q ∷ l) f t h = (further (f .0) t, monotone-append q l (f .1) (rest (f .0) t) h)
+-- it ends where that one ends
+pub last-append : (a : Point) (l k : List Point) → lastFrom a (l ++ k) ≡ lastFrom (lastFrom a l) k
+last-append a [] k = refl
+last-append a (q ∷ l) k = last-append q l k
 
-  -- and an edge is on it exactly if it is on one of the two
-  any-append : (t : Run → Bool) (a : Point) (l : List Point) → lastFrom a l ≡ b → any t (piecesFrom a (l ++ k)) ≡ any t (piecesFrom a l) || any t (piecesFrom b k)
-  any-append t a [] e = ap (λ q. any t (piecesFrom q k)) e
-  any-append t a (q ∷ l) e = ap (λ u. t (a to q) || u) (any-append t q l e) ∙ sym (or-assoc (t (a to q)) (any t (piecesFrom q l)) (any t (piecesFrom b k)))
+-- and two monotone walks are one
+monotone-append : (b z : Point) (k : List Point) (a : Point) (l : List Point) → Monotone a l b → Towards a b z → Monotone b k z → Monotone a (l ++ k) z
+monotone-append b z k a [] f t h = subst (λ q. Monotone q k z) (sym f) h
+monotone-append b z k a (q ∷ l) f t h = (further (f .0) t, monotone-append b z k q l (f .1) (rest (f .0) t) h)
 
 -- two Manhattan routes end to end, where the second starts on the way to its end, are one
 pub end-to-end : (g : Grid) (a b c : Point) (p q : Route) → Manhattan g (a to b) p → Manhattan g (b to c) q → Towards a b c → Manhattan g (a to c) (endToEnd p q)
@@ -86,11 +85,12 @@ end-to-end g a b c (o ∷ l) (d ∷ k) m n t =
     let e : lastFrom o l ≡ d = m .ends ∙ sym (n .starts) in
     subst (λ s. Manhattan g (s to c) (o ∷ l ++ k)) (m .starts)
     (manhattan-of g o (l ++ k) c (all-append (Vertex g) (o ∷ l) k (m .vertices) (n .vertices .1))
-    (straight-append d c k o l e (m .straight) (n .straight))
+    (rw (pieces-append o d l k e) (all-append Straight (piecesFrom o l) (piecesFrom d k) (m .straight) (n .straight)))
     (monotone-append d c k o l (subst (Monotone o l) (sym (n .starts)) (monotone o l m)) (subst₂ (λ s u. Towards s u c) (sym (m .starts)) (sym (n .starts)) t) (monotone d k n)))
 
 -- and it is on the edges of both
 pub end-to-end-on : {g : Grid} (a b c : Point) (p q : Route) → Manhattan g (a to b) p → Manhattan g (b to c) q → (e : Edge) → on e (endToEnd p q) ≡ on e p || on e q
 end-to-end-on a b c [] q m n e = absurd (m .starts)
 end-to-end-on a b c (o ∷ l) [] m n e = absurd (n .starts)
-end-to-end-on a b c (o ∷ l) (d ∷ k) m n e = any-append d c k (lies e) o l (m .ends ∙ sym (n .starts))
+end-to-end-on a b c (o ∷ l) (d ∷ k) m n e =
+    ap (any (lies e)) (pieces-append o d l k (m .ends ∙ sym (n .starts))) ∙ any-append (lies e) (piecesFrom o l) (piecesFrom d k)

@@ -70,7 +70,7 @@ no-shorter p [] = omega (arith, distance-self p)
 no-shorter p (q ∷ l) = omega (arith, triangle p q (lastFrom q l), no-shorter q l)
 
 -- a walk that is not longer either is monotone
-monotone-from : (p : Point) (l : List Point) → sum distance (piecesFrom p l) ≤ distance (p to lastFrom p l) → Monotone p l (lastFrom p l)
+pub monotone-from : (p : Point) (l : List Point) → sum distance (piecesFrom p l) ≤ distance (p to lastFrom p l) → Monotone p l (lastFrom p l)
 monotone-from p [] h = refl
 monotone-from p (q ∷ l) h =
     let t : distance (p to q) + distance (q to lastFrom q l) ≤ distance (p to lastFrom q l) = omega (arith, no-shorter q l) in

@@ -1,4 +1,4 @@
--- Columns and rows that are moved and stay in their order keep the pits: corners and crossings go where their lines go.
+-- Routes whose points are moved. Columns and rows that are moved and stay in their order keep the pits: corners and crossings go where their lines go.
 use mathlib.Core.Path.{_≡_, refl, sym, ap, ap₂, _∙_}
 use mathlib.Core.Logic.{_⊎_, inl, inr}
 use mathlib.Core.Bool.{Bool, true, false, cond, _&&_}
@@ -8,17 +8,42 @@ use native.Mathlib.Omega.{arith}
 use borrow.Author.Tests.{ltb-true, lt-ltb}
 use lib.Dec.{eqb, ltb}
 use lib.ListN.{length, getD}
-use Rattle.network.specs.Lists.{All}
+use Rattle.network.specs.Lists.{any, All, unique}
 use Rattle.network.specs.Plane.{Point, Run, _to_, samePoint}
-use Rattle.network.specs.Grid.{Rising}
-use Rattle.network.specs.Route.{Route, piecesFrom, pieces, level}
-use Rattle.network.specs.Pits.{unique, amid, passesRow, passesColumn, crossing, crossings, pitPoints, pitsOf}
+use Rattle.network.specs.Grid.{Rising, Edge}
+use Rattle.network.specs.Route.{Route, piecesFrom, pieces, level, lies, on}
+use Rattle.network.specs.Pits.{amid, passesRow, passesColumn, crossing, crossings, pitPoints, pitsOf}
 use Rattle.network.proofs.Tests.{same-test, eqb-same}
-use Rattle.network.proofs.Lists.{all-flatMap, flatten-map, flatMap-map}
+use Rattle.network.proofs.Lists.{any-cong, any-flatMap, all-flatMap, flatten-map, flatMap-map, any-map}
 use Rattle.network.proofs.Rising.{rising-lt, rising-le, one-index}
 use Rattle.network.proofs.Numbers.{order}
 use Rattle.network.proofs.Points.{unique-map}
 use Rattle.network.proofs.Pits.{pits-all}
+
+-- ---- moved routes
+
+-- a piece whose two points are moved
+abbrev pub movedPiece : (Point → Point) → Run → Run
+movedPiece f r = f (r .first) to f (r .second)
+
+-- the pieces of a route whose points are moved
+pub pieces-moved : (f : Point → Point) (route : Route) → pieces (map f route) ≡ map (movedPiece f) (pieces route)
+pieces-moved f [] = refl
+pieces-moved f (p ∷ l) = go p l
+  where
+    go : (p : Point) (l : List Point) → piecesFrom (f p) (map f l) ≡ map (movedPiece f) (piecesFrom p l)
+    go p [] = refl
+    go p (q ∷ l) = ap (λ m. (f p to f q) ∷ m) (go q l)
+
+-- an edge is on some moved route exactly if it lies on some moved piece
+pub on-moved : (f : Point → Point) (e : Edge) (routes : List Route) → any (on e) (map (map f) routes) ≡ any (λ r. lies e (movedPiece f r)) (flatMap pieces routes)
+on-moved f e routes =
+    any-map (on e) (map f) routes
+    ∙ any-cong (λ route. on e (map f route)) (λ route. any (λ r. lies e (movedPiece f r)) (pieces route)) routes
+    (λ route m. ap (any (lies e)) (pieces-moved f route) ∙ any-map (lies e) (movedPiece f) (pieces route))
+    ∙ sym (any-flatMap (λ r. lies e (movedPiece f r)) pieces routes)
+
+-- ---- lines that stay in their order
 
 -- f keeps the order of the numbers in X
 abbrev Keeps : (ℕ → Type 0) → (ℕ → ℕ) → Type 0
@@ -51,9 +76,6 @@ module _ (X Y : ℕ → Type 0) (f h : ℕ → ℕ) (keeps-x : Keeps X f) (keeps
   abbrev moved : Point → Point
   moved p = record { x = f (p .x); y = h (p .y) }
 
-  abbrev movedPiece : Run → Run
-  movedPiece r = moved (r .first) to moved (r .second)
-
   abbrev In : Point → Type 0
   In p = X (p .x) × Y (p .y)
 
@@ -61,7 +83,7 @@ module _ (X Y : ℕ → Type 0) (f h : ℕ → ℕ) (keeps-x : Keeps X f) (keeps
   Within r = In (r .first) × In (r .second)
 
   -- a crossing goes where its lines go
-  crossing-moved : (r s : Run) → Within r → Within s → crossing (movedPiece r) (movedPiece s) ≡ map moved (crossing r s)
+  crossing-moved : (r s : Run) → Within r → Within s → crossing (movedPiece moved r) (movedPiece moved s) ≡ map moved (crossing r s)
   unfolding crossing passesRow passesColumn
   crossing-moved r s (a, b) (c, d) =
       rw (
@@ -80,21 +102,13 @@ module _ (X Y : ℕ → Type 0) (f h : ℕ → ℕ) (keeps-x : Keeps X f) (keeps
       go false = refl
 
   -- the crossings of pieces go where their lines go
-  crossings-moved : (l : List Run) → All Within l → crossings (map movedPiece l) ≡ map moved (crossings l)
+  crossings-moved : (l : List Run) → All Within l → crossings (map (movedPiece moved) l) ≡ map moved (crossings l)
   unfolding crossings
   crossings-moved l a =
-      flatMap-map Within movedPiece moved (λ r. flatMap (crossing r) l) (λ r. flatMap (crossing r) (map movedPiece l))
-      (λ r b. flatMap-map Within movedPiece moved (crossing r) (crossing (movedPiece r)) (λ s c. crossing-moved r s b c) l a) l a
+      flatMap-map Within (movedPiece moved) moved (λ r. flatMap (crossing r) l) (λ r. flatMap (crossing r) (map (movedPiece moved) l))
+      (λ r b. flatMap-map Within (movedPiece moved) moved (crossing r) (crossing (movedPiece moved r)) (λ s c. crossing-moved r s b c) l a) l a
 
   -- the pieces of a route
-  pieces-moved : (route : Route) → pieces (map moved route) ≡ map movedPiece (pieces route)
-  pieces-moved [] = refl
-  pieces-moved (p ∷ l) = go p l
-    where
-      go : (p : Point) (l : List Point) → piecesFrom (moved p) (map moved l) ≡ map movedPiece (piecesFrom p l)
-      go p [] = refl
-      go p (q ∷ l) = ap (λ m. movedPiece (p to q) ∷ m) (go q l)
-
   pieces-within : (route : Route) → All In route → All Within (pieces route)
   pieces-within [] a = tt
   pieces-within (p ∷ l) a = go p l a
@@ -108,7 +122,7 @@ module _ (X Y : ℕ → Type 0) (f h : ℕ → ℕ) (keeps-x : Keeps X f) (keeps
   unfolding pitPoints
   pits-moved routes a =
       ap₂ _++_ (flatten-map moved routes)
-      (ap crossings (flatMap-map (All In) (map moved) movedPiece pieces pieces (λ route b. pieces-moved route) routes a)
+      (ap crossings (flatMap-map (All In) (map moved) (movedPiece moved) pieces pieces (λ route b. pieces-moved moved route) routes a)
       ∙ crossings-moved (flatMap pieces routes) (all-flatMap (All In) Within pieces pieces-within routes a))
       ∙ sym (map-append moved (flatten routes) (crossings (flatMap pieces routes)))
 
@@ -121,5 +135,5 @@ module _ (X Y : ℕ → Type 0) (f h : ℕ → ℕ) (keeps-x : Keeps X f) (keeps
   pub pits-kept : (routes : List Route) → All (All In) routes → pitsOf (map (map moved) routes) ≡ pitsOf routes
   unfolding pitsOf
   pits-kept routes a =
-      ap (λ l. length (unique l)) (pits-moved routes a)
+      ap (λ l. length (unique samePoint l)) (pits-moved routes a)
       ∙ unique-map moved In same-kept (pitPoints routes) (pits-all In (λ p q b c. (b .0, c .1)) routes a)

@@ -45,6 +45,11 @@ pub between-there : {a b c : ℕ} → Between a b c → Between a c c
 between-there (rise u v) = rise (omega arith) (omega arith)
 between-there (fall u v) = fall (omega arith) (omega arith)
 
+-- what is between two equal numbers is equal to them
+pub between-same : {a b c : ℕ} → Between a b c → a ≡ c → b ≡ c
+between-same (rise h k) e = omega arith
+between-same (fall h k) e = omega arith
+
 -- of the points p, q, r of a walk to z, q is on the way from p to r, and r on the way from p to z
 pub between-first : {p q r z : ℕ} → Between p q z → Between q r z → Between p q r
 between-first (rise a b) (rise c d) = rise a c

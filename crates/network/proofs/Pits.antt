@@ -22,13 +22,13 @@ use native.Mathlib.Omega.{arith}
 use borrow.Author.Tests.{ltb-true, lt-ltb}
 use lib.Dec.{ltb}
 use lib.ListN.{length, getD}
-use Rattle.network.specs.Lists.{any, All}
+use Rattle.network.specs.Lists.{any, All, unique}
 use Rattle.network.specs.Plane.{Point, Run, _to_, samePoint}
 use Rattle.network.specs.Grid.{Grid}
 use Rattle.network.specs.Route.{Route, piecesFrom, pieces, level, Vertex, Manhattan, Routes}
 use Rattle.network.specs.Steps.{Dir, hor, ver}
-use Rattle.network.specs.Pits.{among, unique, amid, passesRow, passesColumn, crossing, crossings, pitPoints, pitsOf}
-use Rattle.network.specs.Passes.{passes, Crossed}
+use Rattle.network.specs.Pits.{amid, passesRow, passesColumn, crossing, crossings, pitPoints, pitsOf}
+use Rattle.network.specs.Passes.{among, passes, Crossed}
 use Rattle.network.proofs.Tests.{and-split, and-join, or-split, or-join, same-test, Level, level-true}
 use Rattle.network.proofs.Lists.{any-true, true-any, any-cong, any-append, any-flatMap, any-flatten, all-append, all-flatten, all-flatMap, member-index, index-member}
 use Rattle.network.proofs.Numbers.{Between, rise, fall}
@@ -232,9 +232,9 @@ module _ (g : Grid) (runs : List Run) (routes : List Route) (m : Routes g runs r
       go (inr c) = let (a, b) = and-split (passed hor routes p) (passed ver routes p) c in inr (passed-crossed p a b)
 
   -- where no two routes cross, the pits are the distinct corners
-  pub pits-uncrossed : ((p : Point) → Crossed routes p → ⊥) → pitsOf routes ≡ length (unique (flatten routes))
+  pub pits-uncrossed : ((p : Point) → Crossed routes p → ⊥) → pitsOf routes ≡ length (unique samePoint (flatten routes))
   unfolding pitsOf pitPoints
-  pits-uncrossed none = ap (λ l. length (unique (flatten routes ++ l))) (nothing (crossings (flatMap pieces routes)) uncrossed) ∙ ap (λ l. length (unique l)) (append-nil (flatten routes))
+  pits-uncrossed none = ap (λ l. length (unique samePoint (flatten routes ++ l))) (nothing (crossings (flatMap pieces routes)) uncrossed) ∙ ap (λ l. length (unique samePoint l)) (append-nil (flatten routes))
     where
       uncrossed : (p : Point) → among p (crossings (flatMap pieces routes)) ≡ true → ⊥
       uncrossed p h =
@@ -257,7 +257,7 @@ is-pit routes p h = pit-among routes p ∙ or-join (any (among p) routes) (passe
     go (inr c) = inr (and-join (passed hor routes p) (passed ver routes p) (some hor (c .one) (c .one-in) (c .along-row)) (some ver (c .other) (c .other-in) (c .along-column)))
 
 -- there are at least as many pits as distinct corners
-pub pits-least : (routes : List Route) → length (unique (flatten routes)) ≤ pitsOf routes
+pub pits-least : (routes : List Route) → length (unique samePoint (flatten routes)) ≤ pitsOf routes
 unfolding pitsOf pitPoints
 pits-least routes = unique-append (flatten routes) (crossings (flatMap pieces routes))
 

@@ -6,16 +6,17 @@ use mathlib.Core.List.{List, [], _∷_, _++_, map, append-nil, append-assoc}
 use Prim.Native.Nat.{ℕ, _+_, _*_, _≤_, _<_}
 use native.Mathlib.Omega.{arith}
 use lib.ListN.{length}
-use Rattle.network.specs.Lists.{All}
+use Rattle.network.specs.Lists.{All, unique}
 use Rattle.network.specs.Plane.{Point, samePoint}
 use Rattle.network.specs.Grid.{Grid}
 use Rattle.network.specs.Route.{Vertex}
 use Rattle.network.specs.Steps.{vertex}
-use Rattle.network.specs.Pits.{among, unique}
-use Rattle.network.proofs.Tests.{same-test, is-false}
+use Rattle.network.specs.Passes.{among}
+use Rattle.network.proofs.Tests.{same-test, is-false, cond-one}
 use Rattle.network.proofs.Rising.{one-index}
 use Rattle.network.proofs.Sums.{sumTo, sumTo-most, double-zero, double-more}
 use Rattle.network.proofs.Lanes.{point-path}
+use Rattle.network.proofs.Repeats.{unique-one}
 use Rattle.network.proofs.Corners.{point-true, true-point}
 
 -- ---- the same point
@@ -38,15 +39,6 @@ among-last p q (r ∷ l) = go (samePoint p r) (among-last p q l)
     go true e = refl
     go false e = e
 
--- a point that is among those after it is left out, any other stays
-unique-one : (p : Point) (l : List Point) → length (unique (p ∷ l)) ≡ cond (among p l) 0 1 + length (unique l)
-unfolding unique
-unique-one p l = go (among p l)
-  where
-    go : (b : Bool) → length {A = Point} (elim b as (λ u. List Point) [ true ↦ unique l | false ↦ p ∷ unique l ]) ≡ cond b 0 1 + length (unique l)
-    go true = omega arith
-    go false = omega arith
-
 -- whether q stays and whether p is new, if a point behind q's list may be q itself
 new-or-not : (a s m : Bool) (u : ℕ) → (s ≡ true → m ≡ a) → cond (a || s) 0 1 + (u + cond m 0 1) ≡ cond a 0 1 + u + cond (s || m) 0 1
 new-or-not true true m u e = rw (e refl) (omega arith)
@@ -55,14 +47,14 @@ new-or-not false true m u e = rw (e refl) (omega arith)
 new-or-not false false m u e = omega arith
 
 -- a point behind the list is new unless it is among its points
-unique-last : (l : List Point) (p : Point) → length (unique (l ++ p ∷ [])) ≡ length (unique l) + cond (among p l) 0 1
+unique-last : (l : List Point) (p : Point) → length (unique samePoint (l ++ p ∷ [])) ≡ length (unique samePoint l) + cond (among p l) 0 1
 unfolding unique
 unique-last [] p = refl
 unique-last (q ∷ l) p =
     let e : (samePoint q p ≡ true → among p l ≡ among q l) = λ s. rw (point-true q p s) in
-    unique-one q (l ++ p ∷ [])
-    ∙ rw (among-last q p l, unique-last l p, same-turned p q) (new-or-not (among q l) (samePoint q p) (among p l) (length (unique l)) e)
-    ∙ ap (λ n. n + cond (among p (q ∷ l)) 0 1) (sym (unique-one q l))
+    unique-one samePoint q (l ++ p ∷ [])
+    ∙ rw (among-last q p l, unique-last l p, same-turned p q) (new-or-not (among q l) (samePoint q p) (among p l) (length (unique samePoint l)) e)
+    ∙ ap (λ n. n + cond (among p (q ∷ l)) 0 1) (sym (unique-one samePoint q l))
 
 -- ---- points that a map keeps apart
 
@@ -73,17 +65,17 @@ module _ (m : Point → Point) (In : Point → Type 0) (apart : (p q : Point) �
   among-map p (q ∷ l) h a = ap₂ _||_ (apart p q h (a .0)) (among-map p l h (a .1))
 
   -- they have as many distinct images
-  pub unique-map : (l : List Point) → All In l → length (unique (map m l)) ≡ length (unique l)
+  pub unique-map : (l : List Point) → All In l → length (unique samePoint (map m l)) ≡ length (unique samePoint l)
   unfolding unique
   unique-map [] a = refl
   unique-map (p ∷ l) a =
-      unique-one (m p) (map m l)
-      ∙ rw (among-map p l (a .0) (a .1), unique-map l (a .1)) (sym (unique-one p l))
+      unique-one samePoint (m p) (map m l)
+      ∙ rw (among-map p l (a .0) (a .1), unique-map l (a .1)) (sym (unique-one samePoint p l))
 
 -- ---- points behind the list
 
 -- a longer list has no fewer
-pub unique-append : (l k : List Point) → length (unique l) ≤ length (unique (l ++ k))
+pub unique-append : (l k : List Point) → length (unique samePoint l) ≤ length (unique samePoint (l ++ k))
 unique-append l [] = rw (append-nil l) (omega arith)
 unique-append l (p ∷ k) = rw (← append-assoc l (p ∷ []) k) (omega (arith, unique-append (l ++ p ∷ []) k, unique-last l p))
 
@@ -103,14 +95,14 @@ module _ (g : Grid) where
       d (one-index (g .columns) (g .columns-rise) i a h m (ap (λ (p : Point). p .x) e)) (one-index (g .rows) (g .rows-rise) j b k n (ap (λ (p : Point). p .y) e)))
 
   -- the distinct points of a list of vertices are as many as the vertices among them
-  pub unique-vertices : (l : List Point) → All (Vertex g) l → length (unique l) ≡ vertexCount (λ p. among p l)
+  pub unique-vertices : (l : List Point) → All (Vertex g) l → length (unique samePoint l) ≡ vertexCount (λ p. among p l)
   unfolding unique
   unique-vertices [] v = sym (double-zero (length (g .columns)) (length (g .rows)) (λ i j. 0) (λ i j h k. refl))
   unique-vertices (p ∷ l) v =
       let (a, h, x) = v .0 .column in
       let (b, k, y) = v .0 .row in
       let e : vertex g a b ≡ p = point-path x y in
-      unique-one p l
+      unique-one samePoint p l
       ∙ omega (
         arith,
         unique-vertices l (v .1),
@@ -125,12 +117,8 @@ module _ (g : Grid) where
       one false = refl
 
   -- so with at most c rows they are no more than c times the columns
-  pub unique-few : (c : ℕ) → length (g .rows) ≤ c → (l : List Point) → All (Vertex g) l → length (unique l) ≤ length (g .columns) * c
+  pub unique-few : (c : ℕ) → length (g .rows) ≤ c → (l : List Point) → All (Vertex g) l → length (unique samePoint l) ≤ length (g .columns) * c
   unique-few c most l v =
       rw (unique-vertices l v)
       (sumTo-most (length (g .columns)) c (λ i. sumTo (length (g .rows)) (λ j. cond (among (vertex g i j) l) 1 0))
-      (λ i h. omega (arith, sumTo-most (length (g .rows)) 1 (λ j. cond (among (vertex g i j) l) 1 0) (λ j k. one (among (vertex g i j) l)))))
-    where
-      one : (c : Bool) → cond c 1 0 ≤ 1
-      one true = omega arith
-      one false = omega arith
+      (λ i h. omega (arith, sumTo-most (length (g .rows)) 1 (λ j. cond (among (vertex g i j) l) 1 0) (λ j k. cond-one (among (vertex g i j) l)))))

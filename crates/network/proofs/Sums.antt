@@ -1,12 +1,12 @@
 -- Sums over lists, and over the numbers below a bound.
 use mathlib.Core.Path.{_≡_, refl, sym, ap, ap₂, _∙_}
 use mathlib.Core.Bool.{Bool, true, false, cond}
-use mathlib.Core.List.{List, [], _∷_, _++_, map, List·Memᴰ as Member, List·Memᴰ·head as here, List·Memᴰ·tail as there}
+use mathlib.Core.List.{List, [], _∷_, _++_, map, flatMap, List·Memᴰ as Member, List·Memᴰ·head as here, List·Memᴰ·tail as there}
 use Prim.Native.Nat.{ℕ, zero, suc, _+_, _*_, _≤_, _<_}
 use native.Mathlib.Nat.{suc-mul, le-refl}
 use native.Mathlib.Decide.{ℕ-discrete, decLt}
 use native.Mathlib.Omega.{arith}
-use lib.ListN.{length, getD}
+use lib.ListN.{length, getD, length-append}
 use Rattle.network.specs.Lists.{sum, count, select, each}
 use Rattle.network.specs.Graph.{below}
 
@@ -57,6 +57,11 @@ pub sum-less : {A : Type 0} (f g : A → ℕ) {l : List A} → ((a : A) → Memb
 sum-less f g h (here {x} {xs} e) k = omega (arith, ap f e, ap g e, sum-le f g xs (λ b m. h b (there m)))
 sum-less f g h (there {x} {xs} m) k = omega (arith, h x (here refl), sum-less f g (λ b o. h b (there o)) m k)
 
+-- one term of a sum
+pub sum-term : {A : Type 0} (f : A → ℕ) {a : A} {l : List A} → Member a l → f a ≤ sum f l
+sum-term f (here e) = omega (arith, ap f e)
+sum-term f (there m) = omega (arith, sum-term f m)
+
 -- the sum over what is chosen
 pub sum-select : {A : Type 0} (t : A → Bool) (f : A → ℕ) (l : List A) → sum f (select t l) ≡ sum (λ a. cond (t a) (f a) 0) l
 sum-select t f [] = refl
@@ -80,6 +85,12 @@ sum-ones (a ∷ l) = omega (arith, sum-ones l)
 -- so many are chosen as pass
 pub length-select : {A : Type 0} (t : A → Bool) (l : List A) → length (select t l) ≡ count t l
 length-select t l = sym (sum-ones (select t l)) ∙ sum-select t (λ a. 1) l
+
+-- lists one after the other are as long as they are together
+pub length-flatMap : {A B : Type 0} (f : A → List B) (l : List A) → length (flatMap f l) ≡ sum (λ a. length (f a)) l
+unfolding flatMap
+length-flatMap f [] = refl
+length-flatMap f (a ∷ l) = omega (arith, length-append (f a) (flatMap f l), length-flatMap f l)
 
 -- ---- over 0, 1, .., n - 1
 
@@ -121,6 +132,25 @@ sumTo-more (suc n) a k f g l h e = go (ℕ-discrete a n) (sumTo-more n a k f g)
 -- where one term alone is not 0
 pub sumTo-one : (n j : ℕ) (f : ℕ → ℕ) → j < n → ((i : ℕ) → i < n → (i ≡ j → ⊥) → f i ≡ 0) → sumTo n f ≡ f j
 sumTo-one n j f l h = omega (arith, sumTo-more n j (f j) f (λ i. 0) l h (omega arith), sumTo-zero n (λ i. 0) (λ i m. refl))
+
+-- larger terms, a larger sum
+pub sumTo-le : (n : ℕ) (f g : ℕ → ℕ) → ((i : ℕ) → i < n → f i ≤ g i) → sumTo n f ≤ sumTo n g
+sumTo-le zero f g h = omega arith
+sumTo-le (suc n) f g h = omega (arith, sumTo-le n f g (λ i l. h i (omega arith)), h n (omega arith))
+
+-- the sum of two
+pub sumTo-add : (n : ℕ) (f g : ℕ → ℕ) → sumTo n (λ i. f i + g i) ≡ sumTo n f + sumTo n g
+sumTo-add zero f g = refl
+sumTo-add (suc n) f g = omega (arith, sumTo-add n f g)
+
+-- two sums may be taken in either order, over numbers or over a list
+pub sumTo-swap : (n m : ℕ) (f : ℕ → ℕ → ℕ) → sumTo n (λ i. sumTo m (λ j. f i j)) ≡ sumTo m (λ j. sumTo n (λ i. f i j))
+sumTo-swap zero m f = sym (sumTo-zero m _ (λ j l. refl))
+sumTo-swap (suc n) m f = omega (arith, sumTo-swap n m f, sumTo-add m (λ j. sumTo n (λ i. f i j)) (λ j. f n j))
+
+pub sumTo-sum : {A : Type 0} (n : ℕ) (f : ℕ → A → ℕ) (l : List A) → sumTo n (λ i. sum (f i) l) ≡ sum (λ a. sumTo n (λ i. f i a)) l
+sumTo-sum zero f l = sym (sum-zero l)
+sumTo-sum (suc n) f l = omega (arith, sumTo-sum n f l, sum-add (λ a. sumTo n (λ i. f i a)) (f n) l)
 
 -- the same over pairs of numbers
 pub double-zero : (n m : ℕ) (f : ℕ → ℕ → ℕ) → ((i j : ℕ) → i < n → j < m → f i j ≡ 0) → sumTo n (λ i. sumTo m (f i)) ≡ 0

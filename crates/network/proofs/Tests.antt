@@ -66,6 +66,11 @@ cond-or true true n h = absurd (h refl refl)
 cond-or true false n h = omega arith
 cond-or false b n h = omega arith
 
+-- one test counts for 1 at most
+pub cond-one : (b : Bool) → cond b 1 0 ≤ 1
+cond-one true = omega arith
+cond-one false = omega arith
+
 -- ---- level and spans
 
 -- what `level` and `spans` test

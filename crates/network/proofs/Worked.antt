@@ -4,6 +4,7 @@ use mathlib.Core.List.{List, [], _∷_, flatten, flatMap, List·Memᴰ·head as 
 use mathlib.Core.Bool.{false}
 use Prim.Native.Nat.{ℕ, _≤_}
 use native.Mathlib.Omega.{arith}
+use Rattle.network.specs.Lists.{unique}
 use Rattle.network.specs.Plane.{Point, Run, _to_, gap, distance, samePoint}
 use Rattle.network.specs.Grid.{len, edges, spans, inside}
 use Rattle.network.specs.Hanan.{hanan}
@@ -12,7 +13,7 @@ use Rattle.network.specs.Route.{Route, level, lies, Manhattan, Routes, u
 use Rattle.network.specs.Graph.{overlap, meets, below, degree, isCentre, centres}
 use Rattle.network.specs.Excess.{excess}
 use Rattle.network.specs.Corners.{straightOn, corners}
-use Rattle.network.specs.Pits.{unique, amid, passesRow, passesColumn, crossing, crossings, pitPoints, pitsOf}
+use Rattle.network.specs.Pits.{amid, passesRow, passesColumn, crossing, crossings, pitPoints, pitsOf}
 use Rattle.network.specs.Slopes.{flipped, slopes}
 use Rattle.network.specs.Boxes.{within}
 use Rattle.network.specs.Sharable.{Sharable}

@@ -32,6 +32,18 @@ abbrev pub All : {A : Type 0} → (A → Type 0) → List A → Type 0
 All P [] = Unit {0}
 All P (a ∷ l) = P a × All P l
 
+-- the lists have one length, and what stands at one place in both has the property
+abbrev pub Paired : {A B : Type 0} → (A → B → Type 0) → List A → List B → Type 0
+Paired P [] [] = Unit {0}
+Paired P [] (b ∷ k) = ⊥
+Paired P (a ∷ l) [] = ⊥
+Paired P (a ∷ l) (b ∷ k) = P a b × Paired P l k
+
+-- a list without repeats: an element is left out where the same comes again
+unfoldable pub unique : {A : Type 0} → (A → A → Bool) → List A → List A
+unique same [] = []
+unique same (a ∷ l) = elim (any (same a) l) [ true ↦ unique same l | false ↦ a ∷ unique same l ]
+
 -- the lists f 0, f 1, .., f (n - 1), one after the other
 abbrev pub each : {A : Type 0} → ℕ → (ℕ → List A) → List A
 each zero f = []

@@ -1,14 +1,18 @@
--- Passing by direction, along the row or along the column, and two routes that cross: what the laws on pits are stated with.
+-- Points among others, passing by direction, along the row or along the column, and two routes that cross: what the laws on pits are stated with.
 use mathlib.Core.Path.{_≡_}
 use mathlib.Core.Bool.{Bool, true}
 use mathlib.Core.List.{List, []}
 use Prim.Native.Nat.{ℕ, _<_}
 use lib.ListN.{length, getD}
 use Rattle.network.specs.Lists.{any}
-use Rattle.network.specs.Plane.{Point, Run}
+use Rattle.network.specs.Plane.{Point, Run, samePoint}
 use Rattle.network.specs.Route.{Route, pieces}
 use Rattle.network.specs.Steps.{Dir, hor, ver}
 use Rattle.network.specs.Pits.{passesRow, passesColumn}
+
+-- p is one of the points
+abbrev pub among : Point → List Point → Bool
+among p l = any (samePoint p) l
 
 abbrev pub passes : Dir → Point → Run → Bool
 passes hor = passesRow

@@ -1,23 +1,14 @@
 -- Pits: "the distinct points that are an end of a route, a turn of a route, or a vertex which one route passes along its row and another along
 -- its column" (02, C-14). A route is given by its corners: its first point, its turns, its second point. It passes the inner points of its
 -- straight pieces; a Manhattan path passes no point both along its row and along its column, so that the routes of a crossing are two.
-use mathlib.Core.Bool.{Bool, true, false, cond, _&&_, _||_}
+use mathlib.Core.Bool.{Bool, cond, _&&_, _||_}
 use mathlib.Core.List.{List, [], _∷_, _++_, flatten, flatMap}
 use Prim.Native.Nat.{ℕ}
 use lib.ListN.{length}
 use lib.Dec.{ltb}
-use Rattle.network.specs.Lists.{any}
+use Rattle.network.specs.Lists.{unique}
 use Rattle.network.specs.Plane.{Point, Run, samePoint}
 use Rattle.network.specs.Route.{Route, pieces, level}
-
--- p is one of the points
-abbrev pub among : Point → List Point → Bool
-among p l = any (samePoint p) l
-
--- a list of points without repeats
-unfoldable pub unique : List Point → List Point
-unique [] = []
-unique (p ∷ l) = elim (among p l) [ true ↦ unique l | false ↦ p ∷ unique l ]
 
 -- v is strictly between a and b
 unfoldable pub amid : ℕ → ℕ → ℕ → Bool
@@ -45,4 +36,4 @@ pitPoints routes = flatten routes ++ crossings (flatMap pieces routes)
 
 -- how many there are
 unfoldable pub pitsOf : List Route → ℕ
-pitsOf routes = length (unique (pitPoints routes))
+pitsOf routes = length (unique samePoint (pitPoints routes))

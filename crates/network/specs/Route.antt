@@ -8,7 +8,7 @@ use mathlib.Core.Bool.{Bool, cond, _&&_}
 use Prim.Native.Nat.{ℕ, _≤_, _<_}
 use lib.Dec.{eqb}
 use lib.ListN.{length, getD}
-use Rattle.network.specs.Lists.{sum, any, All}
+use Rattle.network.specs.Lists.{sum, any, All, Paired}
 use Rattle.network.specs.Plane.{Point, Run, _to_, distance}
 use Rattle.network.specs.Grid.{Grid, Edge, across, upward, len, edges, spans}
 
@@ -71,10 +71,7 @@ on e route = any (lies e) (pieces route)
 
 -- one Manhattan path for each run, in the same order
 abbrev pub Routes : Grid → List Run → List Route → Type 0
-Routes g [] [] = Unit {0}
-Routes g [] (route ∷ routes) = ⊥
-Routes g (run ∷ runs) [] = ⊥
-Routes g (run ∷ runs) (route ∷ routes) = Manhattan g run route × Routes g runs routes
+Routes g runs routes = Paired (Manhattan g) runs routes
 
 -- the length of the union: each edge that is on at least one of the routes counts once (01; the network's length in 000, 2.1)
 unfoldable pub unionLength : Grid → List Route → ℕ

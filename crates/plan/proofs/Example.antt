@@ -2,13 +2,14 @@
 use mathlib.Core.Path.{_≡_, refl}
 use mathlib.Core.List.{List, [], _∷_, flatMap, flatten}
 use Prim.Native.Nat.{ℕ, _+_}
+use Rattle.network.specs.Lists.{unique}
 use Rattle.network.specs.Plane.{Point, Run, _to_, gap, distance, samePoint}
 use Rattle.network.specs.Grid.{len, edges, spans, inside}
 use Rattle.network.specs.Distinct.{insert, distinct}
 use Rattle.network.specs.Route.{Route, level, lies, unionLength}
 use Rattle.network.specs.Graph.{overlap, meets, degree, isCentre, centres}
 use Rattle.network.specs.Corners.{straightOn}
-use Rattle.network.specs.Pits.{unique, amid, passesRow, passesColumn, crossing, crossings, pitPoints, pitsOf}
+use Rattle.network.specs.Pits.{amid, passesRow, passesColumn, crossing, crossings, pitPoints, pitsOf}
 use Rattle.groups.specs.Groups.{reached, grown, spread, groupOf, lowest, heads, groupCount, centreOf}
 use Rattle.plan.specs.Plan.{bookBytes, drawnBytes, planBytes}
 

@@ -9,10 +9,10 @@ use native.Mathlib.Omega.{arith}
 use lib.ListN.{length, drop, length-append, length-map}
 use Rattle.network.specs.Lists.{All}
 use Rattle.network.specs.Route.{Route}
+use Rattle.network.proofs.Lists.{all-map}
 use Rattle.route.specs.declared.Route.{Route as Steps}
 use Rattle.route.specs.Route.{OnGrid, numbered, cornersOf, placed}
 use Rattle.route.proofs.Corners.{corners-few}
-use Rattle.route.proofs.Lists.{all-map}
 use Rattle.plan.specs.declared.Head.{Head}
 use Rattle.plan.specs.Records.{headRecord, routeRecord, routeSize, cornerRecord, endRecord}
 use Rattle.plan.specs.Plan.{Entry, entryBytes, totalCorners, bookBytes, entriesFrom}

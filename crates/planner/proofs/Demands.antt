@@ -1,6 +1,6 @@
 -- THE THREE DEMANDS follow from the contract of a call, `Outcome` of the verdict. The verdict is the first refusal that applies, or the job (`First`,
 -- `Stars`); and a plan's bytes determine its head and corners, so whoever reads them as a plan reads the one that was written.
-use mathlib.Core.Path.{_≡_, refl, sym, ap, _∙_, subst}
+use mathlib.Core.Path.{_≡_, refl, sym, ap, _∙_, subst, subst₂}
 use mathlib.Core.Logic.{_↔_}
 use mathlib.Core.List.{List, map}
 use Prim.Native.Nat.{ℕ, zero, suc, _-_, _≤_}
@@ -15,6 +15,8 @@ use Rattle.network.specs.Hanan.{hanan}
 use Rattle.network.specs.Route.{Route, unionLength, Least}
 use Rattle.network.specs.Corners.{corners}
 use Rattle.network.proofs.Corners.{corners-least}
+use Rattle.unit.specs.Paths.{LeastCut}
+use Rattle.unit.proofs.Attained.{least-cut}
 use Rattle.job.specs.declared.Run.{Run as Read}
 use Rattle.refusal.specs.declared.Refusal.{Refusal}
 use Rattle.refusal.specs.Refusal.{refusalNumber, refusalPlace}
@@ -65,9 +67,11 @@ module _ (number : ℕ) (runs : List Read) (w : WellFormed number runs) (routes 
       let c : map (λ e. e .corners) es ≡ own
       = book-corners head (headOf number (runsOf runs) own) es (entriesFrom number-of (meetsOf (runsOf runs)) (centreFigure (numbersOf runs) (runsOf runs)) 0 own) in-range
       (rw o (corners-in runs (w .in-range) routes (l .are-routes))) e ∙ o in
+      let t = ap (λ (x : Head). x .trench) h in
       record {
         least = subst (Least g (runsOf runs)) (sym c) own-least;
-        trench = ap (λ (x : Head). x .trench) h ∙ ap (unionLength g) (sym c);
+        trench = t ∙ ap (unionLength g) (sym c);
+        cut = subst₂ (LeastCut (runsOf runs)) (sym c) (sym t) (least-cut (runsOf runs) own own-least);
       }
 
 -- the first bytes, as many as are answered, are the plan

@@ -12,7 +12,7 @@ use native.Mathlib.Omega.{arith}
 use borrow.Author.Tests.{leb-true, eqb-true, not-true}
 use lib.Dec.{eqb, leb}
 use lib.ListN.{length, getD, drop}
-use Rattle.network.specs.Lists.{sum, every, All}
+use Rattle.network.specs.Lists.{sum, every, All, unique}
 use Rattle.network.specs.Plane.{Point, gap, distance, samePoint}
 use Rattle.network.specs.Grid.{len, edges, spans, inside}
 use Rattle.network.specs.Distinct.{insert, distinct}
@@ -25,7 +25,7 @@ use Rattle.network.proofs.Tests.{and-split}
 use Rattle.network.proofs.Corners.{point-true}
 use Rattle.network.proofs.Hanan.{hanan-all}
 use Rattle.network.proofs.Choices.{ways, indexIn, laneOf, routesOf, inFront, choices, LeastAre, leastTest, least-tested}
-use Rattle.network.specs.Pits.{unique, amid, passesRow, passesColumn, crossing, crossings, pitPoints, pitsOf}
+use Rattle.network.specs.Pits.{amid, passesRow, passesColumn, crossing, crossings, pitPoints, pitsOf}
 use Rattle.job.specs.declared.Run.{Run as Read}
 use Rattle.refusal.specs.declared.Refusal.{Refusal}
 use Rattle.refusal.specs.declared.Refusal.the-variants.{NoStar}

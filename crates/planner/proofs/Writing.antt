@@ -1,7 +1,7 @@
 -- The plan that is written is that of the routes that were laid: its figures are measured on them.
 use mathlib.Core.Path.{_≡_, refl, sym, ap, ap₂, _∙_, subst}
 use mathlib.Core.Bool.{true}
-use mathlib.Core.List.{List, [], _∷_, map, map-map}
+use mathlib.Core.List.{List, map, map-map}
 use Prim.Native.Nat.{ℕ, _-_, _≤_, _<_, _%_}
 use native.Mathlib.Omega.{arith}
 use lib.ListN.{length, getD, take}
@@ -12,6 +12,7 @@ use Rattle.network.specs.Hanan.{hanan}
 use Rattle.network.specs.Route.{unionLength}
 use Rattle.network.specs.Corners.{corners}
 use Rattle.network.specs.Graph.{meets}
+use Rattle.network.proofs.Lists.{all-imp}
 use Rattle.network.proofs.Corners.{corners-union}
 use Rattle.groups.specs.Groups.{groupCount}
 use Rattle.grid.specs.declared.Axis.{Axis}
@@ -32,10 +33,6 @@ use Rattle.planner.specs.Held.{runsIn, Held}
 use Rattle.planner.specs.Stages.{Lined, ownOf}
 use Rattle.planner.proofs.Held.{length-held, length-plane, held-few, numbers-held}
 use Rattle.planner.proofs.Fits.{runs-apart, few-lines, distances-bounded}
-
-all-imp : {A : Type 0} (P Q : A → Type 0) → ((a : A) → P a → Q a) → (l : List A) → All P l → All Q l
-all-imp P Q f [] a = tt
-all-imp P Q f (x ∷ l) a = (f x (a .0), all-imp P Q f l (a .1))
 
 -- a grid's own lines are tables of them
 own-tables : (g : Grid) → Tables g (g .columns) (g .rows)

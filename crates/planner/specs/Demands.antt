@@ -10,6 +10,7 @@ use Rattle.network.specs.Plane.{Run}
 use Rattle.network.specs.Hanan.{hanan}
 use Rattle.network.specs.Route.{unionLength, Least}
 use Rattle.network.specs.Graph.{meets}
+use Rattle.unit.specs.Paths.{LeastCut}
 use Rattle.groups.specs.Chains.{StarOf}
 use Rattle.job.specs.declared.Run.{Run as Read}
 use Rattle.refusal.specs.declared.Refusal.{Refusal}
@@ -63,10 +64,13 @@ abbrev pub Leaves : (job : List ℕ) (words : ℕ) (out : List ℕ) → Said →
 Leaves job words out (gives n) out′ = (j : JobIn job) × Plans (j .number) (j .runs) out (gives n) out′
 Leaves job words out (refuses number place) out′ = Given job words (length out) number place × (out′ ≡ out)
 
--- the routes that the corners of a plan's entries draw are least, and the trench figure is the length of their union
+-- The routes that the corners of a plan's entries draw are least, and the trench figure is the length of their union. It is the least of all cuts too, on
+-- survey lines or not: "the plan is no longer than the union of any Manhattan paths of unit steps between whole-decimetre points, one for each run"
+-- (02, C-19), and its own routes, walked in unit steps, are such paths.
 pub record LeastPlan (runs : List Read) (head : Head) (es : List Entry) : Type 0 where
   pub least : Least (hanan (runsOf runs)) (runsOf runs) (map (λ e. e .corners) es)
   pub trench : head .trench ≡ unionLength (hanan (runsOf runs)) (map (λ e. e .corners) es)
+  pub cut : LeastCut (runsOf runs) (map (λ e. e .corners) es) (head .trench)
 
 -- a call that is lent the bytes of a job, so many words and the plan buffer `out`, says s, and leaves `out′`
 pub record Demands (job : List ℕ) (words : ℕ) (out : List ℕ) (s : Said) (out′ : List ℕ) : Type 0 where

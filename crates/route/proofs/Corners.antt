@@ -14,13 +14,14 @@ use Rattle.network.specs.Steps.{Dir, steps, extent, spot, at}
 use Rattle.network.specs.Corners.{corners}
 use Rattle.network.specs.Entries.{below-at, length-below}
 use Rattle.network.specs.Pits.{pitsOf}
+use Rattle.network.proofs.Lists.{all-map}
 use Rattle.network.proofs.Lanes.{at-fits, point-path}
 use Rattle.network.proofs.Moved.{rising-keeps, pits-kept}
 use Rattle.route.specs.declared.Route.{Route}
 use Rattle.route.specs.Route.{stepsOf, columnsOf, rowsOf, drawnOf, OnGrid, numbered, cornersOf, placed, Tables}
 use Rattle.route.specs.Walker.{standing}
 use Rattle.route.specs.Marked.{touched}
-use Rattle.route.proofs.Lists.{all-map, map-cong}
+use Rattle.route.proofs.Lists.{map-cong}
 use Rattle.route.proofs.Lanes.{fits-more, columns-extent, rows-extent}
 use Rattle.route.proofs.Turns.{bends, trail, turns, turns-map, turns-all, turns-length, corners-turns}
 use Rattle.route.proofs.Walk.{few-steps, visits, left, on-start, vertexAt, visits-trail}

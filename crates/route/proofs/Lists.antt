@@ -16,11 +16,6 @@ all-at P (suc n) [] i d a h k = absurd (not-suc-le-zero k)
 all-at P (suc n) (x ∷ l) zero d a h k = a .0
 all-at P (suc n) (x ∷ l) (suc i) d a h k = all-at P n l i d (a .1) (omega arith) (omega arith)
 
--- what holds of all in turn holds of what they are mapped to
-pub all-map : {A B : Type 0} (P : A → Type 0) (Q : B → Type 0) (f : A → B) → ((a : A) → P a → Q (f a)) → (l : List A) → All P l → All Q (map f l)
-all-map P Q f h [] a = tt
-all-map P Q f h (x ∷ l) a = (h x (a .0), all-map P Q f h l (a .1))
-
 -- equal at each, equal mapped
 pub map-cong : {A B : Type 0} (P : A → Type 0) (f g : A → B) → ((a : A) → P a → f a ≡ g a) → (l : List A) → All P l → map f l ≡ map g l
 map-cong P f g h [] a = refl

@@ -14,10 +14,10 @@ use Rattle.network.specs.Lists.{any, All, count, each}
 use Rattle.network.specs.Plane.{Point, samePoint}
 use Rattle.network.specs.Route.{Route as Points, pieces, Vertex}
 use Rattle.network.specs.Steps.{Dir, hor, ver}
-use Rattle.network.specs.Passes.{passes}
+use Rattle.network.specs.Passes.{among, passes}
 use Rattle.network.specs.Entries.{below-at, length-below}
 use Rattle.network.specs.Graph.{below}
-use Rattle.network.specs.Pits.{among, pitPoints, pitsOf}
+use Rattle.network.specs.Pits.{pitPoints, pitsOf}
 use Rattle.network.proofs.Sums.{sumTo, sum-each, sumTo-cong, double-zero, double-cong, double-more}
 use Rattle.network.proofs.Lists.{any-append}
 use Rattle.network.proofs.Lanes.{point-path}

@@ -12,8 +12,8 @@ use Rattle.network.specs.Lists.{any}
 use Rattle.network.specs.Plane.{Point, _to_, samePoint}
 use Rattle.network.specs.Route.{piecesFrom, pieces, level}
 use Rattle.network.specs.Steps.{Dir, hor, ver, steps, Lane, forth, back, extent, at, Fits}
-use Rattle.network.specs.Passes.{passes}
-use Rattle.network.specs.Pits.{among, amid, passesRow, passesColumn}
+use Rattle.network.specs.Passes.{among, passes}
+use Rattle.network.specs.Pits.{amid, passesRow, passesColumn}
 use Rattle.network.proofs.Tests.{same-test, eqb-same, or-split, or-join, is-false}
 use Rattle.network.proofs.Numbers.{order}
 use Rattle.network.proofs.Pits.{Amid, amid-true, true-amid}

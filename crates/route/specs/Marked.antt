@@ -10,8 +10,7 @@ use Rattle.network.specs.Lists.{any, count, each}
 use Rattle.network.specs.Plane.{Point, samePoint}
 use Rattle.network.specs.Route.{Route as Points, pieces}
 use Rattle.network.specs.Steps.{Dir, hor, ver}
-use Rattle.network.specs.Passes.{passes}
-use Rattle.network.specs.Pits.{among}
+use Rattle.network.specs.Passes.{among, passes}
 use Rattle.route.specs.declared.Vertex.{Vertex}
 
 -- a vertex as a point of the grid of indexes

@@ -2,7 +2,7 @@
 -- earlier words alone. So "done below n" moves on by one.
 use mathlib.Core.Path.{_≡_, refl, sym, ap, ap₂, _∙_}
 use mathlib.Core.Logic.{_⊎_, inl, inr, ⊎-elim}
-use mathlib.Core.Bool.{Bool, true, false, cond}
+use mathlib.Core.Bool.{cond}
 use mathlib.Core.List.{List}
 use Prim.Native.Nat.{ℕ, zero, suc, pred, _+_, _-_, _*_, _≤_, _<_, max, zero-le, suc-le-suc}
 use native.Mathlib.Nat.{add-zero, mul-le-mul, mul-le-mul-right, suc-mul}
@@ -13,6 +13,7 @@ use lib.Dec.{eqb}
 use lib.ListN.{length, getD, set, length-set}
 use lib.Seq.{getD-set-same, getD-set-other}
 use Rattle.network.specs.Steps.{Dir, hor, ver, other}
+use Rattle.network.proofs.Tests.{cond-one}
 use Rattle.table.specs.declared.frame.Line.{Line}
 use Rattle.table.specs.declared.frame.Group.{Group}
 use Rattle.table.specs.declared.fill.Pair.{Pair}
@@ -125,11 +126,7 @@ stride-pos w ver h = h
 
 -- a start counts at most 1
 start-le : (u : ℕ) → startOf u ≤ 1
-start-le u = go (eqb u 0)
-  where
-    go : (b : Bool) → cond b 1 0 ≤ 1
-    go true = omega arith
-    go false = omega arith
+start-le u = cond-one (eqb u 0)
 
 -- there are two directions
 dir-lt : (d : Dir) → dirNo d < 2

@@ -12,7 +12,8 @@ use trench_archive::ended;
 use trench_archive::program::{printed_by, table_figure};
 use trench_check::book_cases::book_case;
 use trench_check::choose::try_pairs;
-use trench_check::compare::{case, crossed_case, try_case, try_cases, try_listing};
+use trench_check::compare::{Case, case, crossed_case, roomy_case, try_case, try_cases, try_listing};
+use trench_check::cuts::Tried;
 use trench_check::job::Point;
 use trench_check::list_cases::list_case;
 use trench_check::pair_cases::pair_case;
@@ -21,7 +22,7 @@ use trench_check::plan_book::PlanBook;
 use trench_check::planner::plan_surveyed;
 use trench_check::random::Random;
 use trench_check::read_back::{try_books, try_plan_listing};
-use trench_check::refusal::{PLAN_ROOM, surveyed};
+use trench_check::refusal::{PLAN_ROOM, read, surveyed};
 use trench_check::report::{Report, Subject};
 use trench_check::write_job::try_lists;
 
@@ -35,6 +36,7 @@ usage: differ COUNT                          so many jobs, and then plan books, 
        differ --pairs COUNT                  so many jobs with two plan books each for the chooser, of both seeds
        differ --pairs SEED FROM TO           the pairs FROM to TO - 1 of a seed; each is named before it is tried
        differ --crossed COUNT                so many small stars in which cables cross, of both seeds
+       differ --cuts COUNT                   so many small jobs with room between their survey lines, of both seeds
        differ --table COUNT                  jobs for the plain C planner in place of the archive's
        differ --table SEED FROM TO           likewise
        differ --listing PROGRAM COUNT        the same jobs for a program that reads a job book and prints its plan's listing
@@ -60,6 +62,7 @@ fn main() -> ExitCode {
         ["--pairs", pairs] => numbers(&[pairs]).map(|n| seeds(n[0], many_pairs)),
         ["--pairs", seed, from, to] => numbers(&[seed, from, to]).map(|n| pair_by_pair(n[0], n[1], n[2])),
         ["--crossed", jobs] => numbers(&[jobs]).map(|n| seeds(n[0], crossed)),
+        ["--cuts", jobs] => numbers(&[jobs]).map(|n| seeds(n[0], cut)),
         ["--table", ref rest @ ..] => numbers(rest).and_then(|numbers| planned(Function::Table, &numbers)),
         ["--plans", seed, from, to] => numbers(&[seed, from, to]).map(|n| plan_by_plan(n[0], n[1], n[2])),
         ref all => numbers(all).and_then(|numbers| compared(&numbers)),
@@ -143,19 +146,29 @@ fn on_two_threads(share: impl Fn(u64) -> Report + Sync) -> Report {
     })
 }
 
+/// Tries the first jobs of a seed that are made in some way, and shows what the archive planned of each.
+fn each(made: fn(u64, u64) -> Case, seed: u64, jobs: u64, mut show: impl FnMut(&Case, &PlanBook)) -> Report {
+    let mut report = Report::of(Subject::Jobs);
+    let mut caller = Guarded::new(Function::Archive, Against::Back);
+    for n in 0..jobs {
+        let before = report.faults.len();
+        let case = made(seed, n);
+        try_case(&mut caller, &case, &mut Random::nth(!seed, n), &mut report);
+        report.faults[before..].iter_mut().for_each(|fault| *fault = format!("seed {seed} job {n}: {fault}"));
+        let mut out = vec![0; PLAN_ROOM];
+        let length = usize::try_from(plan(Function::Archive, &case.bytes, &mut out)).ok();
+        if let Some(book) = length.and_then(|length| PlanBook::read(&out[..length]).ok()) {
+            show(&case, &book);
+        }
+    }
+    report
+}
+
 /// Tries the first small stars of a seed in which cables cross. Where fewer than a third of the plans have a pit that only a
 /// crossing asks for, which about two thirds have, the trial is idle: that is a fault too.
 fn crossed(seed: u64, jobs: u64) -> Report {
-    let mut report = Report::of(Subject::Jobs);
-    let mut caller = Guarded::new(Function::Archive, Against::Back);
     let mut crossings = 0;
-    for n in 0..jobs {
-        let before = report.faults.len();
-        let case = crossed_case(seed, n);
-        try_case(&mut caller, &case, &mut Random::nth(!seed, n), &mut report);
-        report.faults[before..].iter_mut().for_each(|fault| *fault = format!("seed {seed} job {n}: {fault}"));
-        crossings += u64::from(has_crossing(&case.bytes));
-    }
+    let mut report = each(crossed_case, seed, jobs, |_, book| crossings += u64::from(has_crossing(book)));
     println!("{crossings} plans with a pit for a crossing alone");
     if 3 * crossings < jobs {
         report.faults.push(format!("seed {seed}: only {crossings} of {jobs} plans have such a pit"));
@@ -163,13 +176,26 @@ fn crossed(seed: u64, jobs: u64) -> Report {
     report
 }
 
-/// Whether the archive's plan of a job has a pit at which no route ends or turns.
-fn has_crossing(job: &[u8]) -> bool {
-    let mut out = vec![0; PLAN_ROOM];
-    let length = usize::try_from(plan(Function::Archive, job, &mut out)).ok();
-    let Some(book) = length.and_then(|length| PlanBook::read(&out[..length]).ok()) else { return false };
+/// Whether a plan has a pit at which no route ends or turns.
+fn has_crossing(book: &PlanBook) -> bool {
     let routes: Vec<&[Point]> = book.routes.iter().map(|route| &route.corners[..]).collect();
     !pits::of_corners(&routes).crossings.is_empty()
+}
+
+/// Tries the first small jobs of a seed with room between their survey lines: the trench of each plan must be the least of all cuts, on
+/// survey lines or not. Where fewer than a quarter of the jobs have room and share, the trial is idle: that is a fault too.
+fn cut(seed: u64, jobs: u64) -> Report {
+    let mut tried = Tried::default();
+    let mut report = each(roomy_case, seed, jobs, |case, book| {
+        tried.hold(&read(&case.bytes).expect("a job that is planned"), book.trench.into());
+    });
+    let Tried { jobs: held, with_room, shared, faults } = tried;
+    println!("{held} plans held to all cuts, {with_room} with room between the lines, {shared} of these share");
+    report.faults.extend(faults.iter().map(|fault| format!("seed {seed}: {fault}")));
+    if 4 * (shared as u64) < jobs {
+        report.faults.push(format!("seed {seed}: only {shared} of {jobs} jobs have room and share"));
+    }
+    report
 }
 
 /// Has a program list the first jobs of a seed.

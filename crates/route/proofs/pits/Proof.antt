@@ -9,7 +9,8 @@ use Rattle.route.specs.Route.{OnGrid, numbered, cornersOf}
 use Rattle.route.specs.Marked.{Counted}
 use Rattle.network.specs.Lists.{All}
 use Rattle.network.specs.Route.{Vertex}
-use Rattle.route.proofs.Lists.{all-at, all-map}
+use Rattle.network.proofs.Lists.{all-map}
+use Rattle.route.proofs.Lists.{all-at}
 use Rattle.route.proofs.Corners.{corners-vertices}
 use Rattle.route.proofs.Marks.{counted-none, someTouched, counted-more, counted-all}
 use Rattle.route.proofs.pits.Statement.{statement}
