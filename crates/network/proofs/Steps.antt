@@ -1,8 +1,8 @@
 -- Every Manhattan route of a run has a step list in the run's frame that is on the same edges.
 --
--- The route is monotone. So each of its pieces goes, along one line, from one line of the frame to a later one: it is a number of unit steps in one
--- direction, and the steps of all pieces, one after the other, are the list. Pieces in line make one piece, so unit steps and piece are on the
--- same edges.
+-- The route is monotone. So each of its pieces goes, along one line, from one line of the frame to a later one: it is a number of steps from line to
+-- line in one direction, and the steps of all pieces, one after the other, are the list. Pieces in line make one piece, so steps and piece are on
+-- the same edges.
 use mathlib.Core.Path.{_≡_, refl, sym, ap, ap₂, _∙_, subst, subst₂}
 use mathlib.Core.Logic.{inl, inr}
 use mathlib.Core.List.{List, [], _∷_, _++_}

@@ -1,8 +1,8 @@
 -- Every Manhattan route of a run between two points has a step list in the run's frame with the same corners.
 --
--- Each piece of the route is a number of unit steps along one line. Of these steps only the first can turn, and it turns exactly where the piece
+-- Each piece of the route is a number of steps along one line. Of these steps only the first can turn, and it turns exactly where the piece
 -- does: the route comes to the piece along one line, and a step and a piece that start at one point in one direction leave that line together. So
--- the unit steps may stand for the piece, one piece after the other, and no corner is lost or won.
+-- the steps may stand for the piece, one piece after the other, and no corner is lost or won.
 use mathlib.Core.Path.{_≡_, refl, sym, ap, ap₂, _∙_, subst, subst₂}
 use mathlib.Core.Logic.{inl, inr}
 use mathlib.Core.List.{List, [], _∷_}

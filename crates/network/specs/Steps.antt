@@ -1,5 +1,5 @@
--- Step lists: a route as unit steps in its run's own frame, which counts the columns and the rows that the run passes from its first point to
--- its second. The layers that build routes speak of these; the promise itself speaks of the routes that they draw.
+-- Step lists: a route as steps from line to line in its run's own frame, which counts the columns and the rows that the run passes from its first
+-- point to its second. The layers that build routes speak of these; the promise itself speaks of the routes that they draw.
 use mathlib.Core.Path.{_≡_}
 use mathlib.Core.List.{List, [], _∷_}
 use Prim.Native.Nat.{ℕ, suc, _+_, _-_, _≤_, _<_}

@@ -37,21 +37,21 @@ record Within (p q : Point) (s : Run) : Type 0 where
   from : Towards p (s .first) q
   upto : Towards p (s .second) q
 
--- an edge of the grid passes a test, and the step is one of its unit steps
-record Cut (g : Grid) (t : Edge → Bool) (s : Run) : Type 0 where
+-- the step is one of the unit steps of an edge of the grid that passes a test
+record UnitOf (g : Grid) (t : Edge → Bool) (s : Run) : Type 0 where
   edge : Edge
   of-grid : OfGrid g edge
   passes : t edge ≡ true
   step : any (sameEdge s) (unitsOf edge) ≡ true
 
-cut-also : {g : Grid} {t u : Edge → Bool} {s : Run} → ((e : Edge) → t e ≡ true → u e ≡ true) → Cut g t s → Cut g u s
-cut-also h c = record { edge = c .edge; of-grid = c .of-grid; passes = h (c .edge) (c .passes); step = c .step }
+unit-also : {g : Grid} {t u : Edge → Bool} {s : Run} → ((e : Edge) → t e ≡ true → u e ≡ true) → UnitOf g t s → UnitOf g u s
+unit-also h c = record { edge = c .edge; of-grid = c .of-grid; passes = h (c .edge) (c .passes); step = c .step }
 
 module _ (g : Grid) (p q : Point) (v : Vertex g p) (w : Vertex g q) (s : Run) (h : Within p q s) where
   -- it is the k-th unit step of an edge
-  cut-at : (e : Edge) (n : ℕ) (place : ℕ → Run) → unitsOf e ≡ each n (λ k. place k ∷ []) → OfGrid g e → Lies e (p to q)
-      → (k : ℕ) → k < n → Same-ends s (place k) → Cut g (λ e. lies e (p to q)) s
-  cut-at e n place u o l k b t =
+  unit-at : (e : Edge) (n : ℕ) (place : ℕ → Run) → unitsOf e ≡ each n (λ k. place k ∷ []) → OfGrid g e → Lies e (p to q)
+      → (k : ℕ) → k < n → Same-ends s (place k) → UnitOf g (λ e. lies e (p to q)) s
+  unit-at e n place u o l k b t =
       record {
         edge = e;
         of-grid = o;
@@ -64,28 +64,28 @@ module _ (g : Grid) (p q : Point) (v : Vertex g p) (w : Vertex g q) (s : Run) (h
   on-line line d e (inl u) = inl (d ∙ ap line (u .0), e ∙ ap line (u .1))
   on-line line d e (inr u) = inr (d ∙ ap line (u .0), e ∙ ap line (u .1))
 
-  along-row : p .y ≡ q .y → gap (s .first .x) (s .second .x) ≡ 1 → Cut g (λ e. lies e (p to q)) s
+  along-row : p .y ≡ q .y → gap (s .first .x) (s .second .x) ≡ 1 → UnitOf g (λ e. lies e (p to q)) s
   unfolding unitsOf
   along-row e o =
       let (i, m, t, (k, b, up)) = step-gap (g .columns) (g .columns-rise) (p .x) (q .x) (s .first .x) (s .second .x) (v .column) (w .column) (h .from .in-x) (h .upto .in-x) o in
       let (j, n, d) = w .row in
       let row : ℕ → Point = λ x. point x (getD (g .rows) j 0) in
-      cut-at (acrossAt g i j) (getD (g .columns) (suc i) 0 - getD (g .columns) i 0) (λ k. row (getD (g .columns) i 0 + k) to row (suc (getD (g .columns) i 0 + k))) refl
+      unit-at (acrossAt g i j) (getD (g .columns) (suc i) 0 - getD (g .columns) i 0) (λ k. row (getD (g .columns) i 0 + k) to row (suc (getD (g .columns) i 0 + k))) refl
       (across-of i j m n) (record { first-at = e ∙ sym d; second-at = sym d }, t) k b
       (on-line row (point-path refl (between-same (h .from .in-y) e ∙ sym d)) (point-path refl (between-same (h .upto .in-y) e ∙ sym d)) up)
 
-  along-column : p .x ≡ q .x → gap (s .first .y) (s .second .y) ≡ 1 → Cut g (λ e. lies e (p to q)) s
+  along-column : p .x ≡ q .x → gap (s .first .y) (s .second .y) ≡ 1 → UnitOf g (λ e. lies e (p to q)) s
   unfolding unitsOf
   along-column e o =
       let (j, m, t, (k, b, up)) = step-gap (g .rows) (g .rows-rise) (p .y) (q .y) (s .first .y) (s .second .y) (v .row) (w .row) (h .from .in-y) (h .upto .in-y) o in
       let (i, n, d) = w .column in
       let column : ℕ → Point = λ y. point (getD (g .columns) i 0) y in
-      cut-at (upwardAt g i j) (getD (g .rows) (suc j) 0 - getD (g .rows) j 0) (λ k. column (getD (g .rows) j 0 + k) to column (suc (getD (g .rows) j 0 + k))) refl
+      unit-at (upwardAt g i j) (getD (g .rows) (suc j) 0 - getD (g .rows) j 0) (λ k. column (getD (g .rows) j 0 + k) to column (suc (getD (g .rows) j 0 + k))) refl
       (upward-of i j n m) (record { first-at = e ∙ sym d; second-at = sym d }, t) k b
       (on-line column (point-path (between-same (h .from .in-x) e ∙ sym d) refl) (point-path (between-same (h .upto .in-x) e ∙ sym d) refl) up)
 
   -- a unit step on a straight piece between vertices is one of the unit steps of an edge on the piece
-  on-piece : Straight (p to q) → Cut g (λ e. lies e (p to q)) s
+  on-piece : Straight (p to q) → UnitOf g (λ e. lies e (p to q)) s
   on-piece t = go t (unit-kind s (h .unit))
     where
       no-gap : (a b : ℕ) → a ≡ b → gap a b ≡ 1 → ⊥
@@ -93,7 +93,7 @@ module _ (g : Grid) (p q : Point) (v : Vertex g p) (w : Vertex g q) (s : Run) (h
 
       go : Straight (p to q)
           → ((s .first .y ≡ s .second .y) × (gap (s .first .x) (s .second .x) ≡ 1)) ⊎ ((s .first .x ≡ s .second .x) × (gap (s .first .y) (s .second .y) ≡ 1))
-          → Cut g (λ e. lies e (p to q)) s
+          → UnitOf g (λ e. lies e (p to q)) s
       go (inr e) (inl k) = along-row e (k .1)
       go (inl e) (inr k) = along-column e (k .1)
       go (inl e) (inl k) = absurd (no-gap _ _ (between-same (h .from .in-x) e ∙ sym (between-same (h .upto .in-x) e)) (k .1))
@@ -111,34 +111,34 @@ within p (suc n) o q h t =
 
 module _ (g : Grid) where
   -- each is a unit step of an edge on the route
-  from-cut : (p : Point) (l : List Point) → All (Vertex g) (p ∷ l) → All Straight (piecesFrom p l)
-      → All (Cut g (λ e. any (lies e) (piecesFrom p l))) (piecesFrom p (walkFrom p l))
-  from-cut p [] v t = tt
-  from-cut p (q ∷ l) v t =
+  from-units : (p : Point) (l : List Point) → All (Vertex g) (p ∷ l) → All Straight (piecesFrom p l)
+      → All (UnitOf g (λ e. any (lies e) (piecesFrom p l))) (piecesFrom p (walkFrom p l))
+  from-units p [] v t = tt
+  from-units p (q ∷ l) v t =
       rw (walk-pieces p q l)
-      (all-append (Cut g (λ e. any (lies e) (piecesFrom p (q ∷ l)))) (piecesFrom p (walkTo (distance (p to q)) p q)) (piecesFrom q (walkFrom q l))
-      (all-imp (Within p q) (Cut g (λ e. any (lies e) (piecesFrom p (q ∷ l))))
-      (λ s h. cut-also (λ e i. or-join (lies e (p to q)) (any (lies e) (piecesFrom q l)) (inl i)) (on-piece g p q (v .0) (v .1 .0) s h (t .0)))
+      (all-append (UnitOf g (λ e. any (lies e) (piecesFrom p (q ∷ l)))) (piecesFrom p (walkTo (distance (p to q)) p q)) (piecesFrom q (walkFrom q l))
+      (all-imp (Within p q) (UnitOf g (λ e. any (lies e) (piecesFrom p (q ∷ l))))
+      (λ s h. unit-also (λ e i. or-join (lies e (p to q)) (any (lies e) (piecesFrom q l)) (inl i)) (on-piece g p q (v .0) (v .1 .0) s h (t .0)))
       (piecesFrom p (walkTo (distance (p to q)) p q)) (within p (distance (p to q)) p q refl (towards-here p q)))
-      (all-imp (Cut g (λ e. any (lies e) (piecesFrom q l))) (Cut g (λ e. any (lies e) (piecesFrom p (q ∷ l))))
-      (λ s. cut-also (λ e i. or-join (lies e (p to q)) (any (lies e) (piecesFrom q l)) (inr i)))
-      (piecesFrom q (walkFrom q l)) (from-cut q l (v .1) (t .1))))
+      (all-imp (UnitOf g (λ e. any (lies e) (piecesFrom q l))) (UnitOf g (λ e. any (lies e) (piecesFrom p (q ∷ l))))
+      (λ s. unit-also (λ e i. or-join (lies e (p to q)) (any (lies e) (piecesFrom q l)) (inr i)))
+      (piecesFrom q (walkFrom q l)) (from-units q l (v .1) (t .1))))
 
-  route-cut : (route : Route) → All (Vertex g) route → All Straight (pieces route) → All (Cut g (λ e. on e route)) (pieces (walked route))
-  route-cut [] v t = tt
-  route-cut (p ∷ l) v t = from-cut p l v t
+  route-units : (route : Route) → All (Vertex g) route → All Straight (pieces route) → All (UnitOf g (λ e. on e route)) (pieces (walked route))
+  route-units [] v t = tt
+  route-units (p ∷ l) v t = from-units p l v t
 
-  routes-cut : (runs : List Run) (routes : List Route) → Routes g runs routes → All (Cut g (λ e. any (on e) routes)) (flatMap pieces (map walked routes))
+  routes-units : (runs : List Run) (routes : List Route) → Routes g runs routes → All (UnitOf g (λ e. any (on e) routes)) (flatMap pieces (map walked routes))
   unfolding flatMap
-  routes-cut [] [] w = tt
-  routes-cut (run ∷ runs) (route ∷ routes) w =
-      all-append (Cut g (λ e. any (on e) (route ∷ routes))) (pieces (walked route)) (flatMap pieces (map walked routes))
-      (all-imp (Cut g (λ e. on e route)) (Cut g (λ e. any (on e) (route ∷ routes)))
-      (λ s. cut-also (λ e i. or-join (on e route) (any (on e) routes) (inl i)))
-      (pieces (walked route)) (route-cut route (w .0 .vertices) (w .0 .straight)))
-      (all-imp (Cut g (λ e. any (on e) routes)) (Cut g (λ e. any (on e) (route ∷ routes)))
-      (λ s. cut-also (λ e i. or-join (on e route) (any (on e) routes) (inr i)))
-      (flatMap pieces (map walked routes)) (routes-cut runs routes (w .1)))
+  routes-units [] [] w = tt
+  routes-units (run ∷ runs) (route ∷ routes) w =
+      all-append (UnitOf g (λ e. any (on e) (route ∷ routes))) (pieces (walked route)) (flatMap pieces (map walked routes))
+      (all-imp (UnitOf g (λ e. on e route)) (UnitOf g (λ e. any (on e) (route ∷ routes)))
+      (λ s. unit-also (λ e i. or-join (on e route) (any (on e) routes) (inl i)))
+      (pieces (walked route)) (route-units route (w .0 .vertices) (w .0 .straight)))
+      (all-imp (UnitOf g (λ e. any (on e) routes)) (UnitOf g (λ e. any (on e) (route ∷ routes)))
+      (λ s. unit-also (λ e i. or-join (on e route) (any (on e) routes) (inr i)))
+      (flatMap pieces (map walked routes)) (routes-units runs routes (w .1)))
 
 -- ---- the union
 
@@ -147,7 +147,7 @@ unfolding unitLength unionLength
 walked-no-longer g runs routes w =
     omega (
       arith,
-      unique-most sameEdge same-both steps (flatMap unitsOf dug) (λ s m. found s (all-member (Cut g used) (routes-cut g runs routes w) m)),
+      unique-most sameEdge same-both steps (flatMap unitsOf dug) (λ s m. found s (all-member (UnitOf g used) (routes-units g runs routes w) m)),
       length-flatMap unitsOf dug,
       sum-cong (λ e. length (unitsOf e)) len dug (λ e m. length-units e),
       sum-select used len (edges g),
@@ -162,7 +162,7 @@ walked-no-longer g runs routes w =
     steps : List Run
     steps = flatMap pieces (map walked routes)
 
-    found : (s : Run) → Cut g used s → any (sameEdge s) (flatMap unitsOf dug) ≡ true
+    found : (s : Run) → UnitOf g used s → any (sameEdge s) (flatMap unitsOf dug) ≡ true
     found s c =
         any-flatMap (sameEdge s) unitsOf dug
         ∙ true-any (λ e. any (sameEdge s) (unitsOf e)) (member-selected used (edges g) (of-edge g (c .of-grid)) (c .passes)) (c .step)

@@ -1,5 +1,5 @@
 -- "Any Manhattan paths of unit steps between whole-decimetre points, one for each run" (02, C-19). There is no grid here: a point has any two whole
--- numbers for its coordinates. None of them is below the least that a job can have, and no path needs such a one: it stays in its run's box (`unit-in-box`).
+-- numbers for its coordinates. They start at the least coordinate of a job, below which no path goes: it stays in its run's box (`unit-in-box`).
 use mathlib.Core.Path.{_≡_}
 use mathlib.Core.List.{List, [], _∷_, _++_, map, flatMap}
 use mathlib.Core.Bool.{Bool, true, false, _&&_, _||_}
