@@ -1,5 +1,5 @@
 //! Cuts off the survey lines (02, C-19): the least union of Manhattan paths of unit steps between whole-decimetre points, one for each
-//! run, by trying every sequence of paths. Nothing here knows of survey lines, grids, groups or stars: a path goes from one
+//! run, by trying every sequence of paths. `least` knows nothing of survey lines, grids, groups or stars: a path goes from one
 //! whole-decimetre point to the next, and a union is a set of unit edges.
 
 use crate::grid::Grid;
@@ -13,6 +13,8 @@ type Edges = u128;
 const MOST_POINTS: i64 = 64;
 /// The most paths of one run that are ever listed.
 const MOST_PATHS: usize = 5_000;
+/// The sequences of paths up to which a plan is held to the least of all cuts.
+const SEQUENCES: usize = 1_000_000;
 
 /// The smallest rectangle around the points of all runs; none of a job without runs, or where it has too many points.
 fn around(job: &Job) -> Option<Area> {
@@ -101,9 +103,6 @@ pub struct Tried {
     /// What was wrong, in words.
     pub faults: Vec<String>,
 }
-
-/// The sequences of paths up to which a job is tried.
-pub const SEQUENCES: usize = 1_000_000;
 
 impl Tried {
     /// Holds the trench of a plan of the job to the least of all cuts, where the job is small enough.

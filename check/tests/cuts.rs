@@ -6,7 +6,7 @@ use trench_check::cuts::{Tried, has_room, least};
 use trench_check::enumerate;
 use trench_check::generate;
 use trench_check::graph::Survey;
-use trench_check::job::{Job, Point};
+use trench_check::job::{Job, Point, Run};
 use trench_check::line;
 use trench_check::planner;
 use trench_check::random::Random;
@@ -115,7 +115,7 @@ fn a_right_planner_passes() {
 fn wrong_planners_are_noticed() {
     let bent = |job: &Job| {
         let survey = Survey::of(job.clone());
-        let corners = |run: &trench_check::job::Run| [run.first, Point::new(run.second.x, run.first.y), run.second];
+        let corners = |run: &Run| [run.first, Point::new(run.second.x, run.first.y), run.second];
         let routes: Vec<_> =
             job.runs.iter().map(|run| survey.grid.path(&corners(run)).expect("corners on the lines")).collect();
         survey.graph.stars().map(|_| planner::dug(&survey.grid, &routes))

@@ -62,12 +62,12 @@ abbrev pub endToEnd : Route → Route → Route
 endToEnd p [] = p
 endToEnd p (b ∷ k) = p ++ k
 
--- the pieces of a walk that goes on where another ends stand behind the other's
+-- a walk that goes on where another ends: its pieces stand behind those of the other
 pub pieces-append : (a b : Point) (l k : List Point) → lastFrom a l ≡ b → piecesFrom a (l ++ k) ≡ piecesFrom a l ++ piecesFrom b k
 pieces-append a b [] k e = ap (λ q. piecesFrom q k) e
 pieces-append a b (q ∷ l) k e = ap (λ t. (a to q) ∷ t) (pieces-append q b l k e)
 
--- it ends where that one ends
+-- where it ends, both end
 pub last-append : (a : Point) (l k : List Point) → lastFrom a (l ++ k) ≡ lastFrom (lastFrom a l) k
 last-append a [] k = refl
 last-append a (q ∷ l) k = last-append q l k
