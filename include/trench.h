@@ -1,5 +1,5 @@
-/* The trench planner for C, the writer of its jobs, the reader of its plans, and the choice between two of them. Link
- * target/staticlib/libtrench.a, which `rt staticlib trench` writes.
+/* The trench planner for C, the forecast of what it is to be lent, the writer of its jobs, the reader of its plans, and the choice
+ * between two of them. Link target/staticlib/libtrench.a, which `rt staticlib trench` writes.
  *
  * Lengths and coordinates are in decimetres. Fields of both books are little-endian and not aligned; coordinates are 32-bit
  * two's complement. Each record is one byte of kind, then a body:
@@ -25,7 +25,8 @@
  * column. Plans written before crossings counted carry the number of ends and turns alone.
  *
  * A function that can refuse gives a number from 0 up, or minus the refusal number; its twin, of the same name with _place, gives
- * the place of that refusal, 0 where there is none. */
+ * the place of that refusal, 0 where there is none. trench_words, trench_bytes, trench_plan and trench_plan_in share one,
+ * trench_plan_place. */
 #ifndef TRENCH_H
 #define TRENCH_H
 
@@ -36,10 +37,10 @@
 extern "C" {
 #endif
 
-/* The least plan buffer that is accepted, in bytes. */
-#define TRENCH_PLAN_ROOM 40960
+/* No forecast has more work words than this. */
+#define TRENCH_MOST_WORDS 16384
 
-/* No plan is longer than this, in bytes; nor is any plan book that is read. */
+/* No forecast has more bytes than this, so no plan is longer; nor is any plan book that is read. */
 #define TRENCH_LONGEST_PLAN 36886
 
 /* No job that is accepted is longer than this, in bytes; so it is room for every job that trench_job writes. */
@@ -60,15 +61,16 @@ extern "C" {
 #define TRENCH_ROUTE 4
 #define TRENCH_CORNER 2
 
-/* A call of any function needs no more stack than this, in bytes; most of it are the planner's 16,384 work words, and the
+/* A call of any function needs no more stack than this, in bytes; most of it are the work words of trench_plan, and the
  * other functions need far less. This figure is measured by the tests and not proved. */
 #define TRENCH_STACK 131072
 
-/* The refusals, of jobs by trench_plan, of lists of runs by trench_job, of plan books by trench_read, and of a job and two plan
- * books by trench_choose. Where several apply, the answer is the first:
+/* The refusals, of jobs by trench_words, trench_bytes, trench_plan and trench_plan_in, of lists of runs by trench_job, of plan
+ * books by trench_read, and of a job and two plan books by trench_choose. Where several apply, the answer is the first:
  *
- *   job         2; then the records front to back, and within a record 4, 3, 5, 9, 7, 8, 17, 6; last 11. No call answers -10: a
- *               job without runs is planned.
+ *   job         the records front to back, and within a record 4, 3, 5, 9, 7, 8, 17, 6; then 1; then 2; last 11. A job is well
+ *               formed where none of 3 to 9 and 17 applies: then the forecast tells none. No call answers -10: a job without runs
+ *               is planned.
  *   list        3; 9; then the runs front to back, and within a run 7, 8, 17; last 2.
  *   plan book   the records front to back, and within a record 12, 8, 13; 14 only where nothing else is wrong, in the book's
  *               order: the head's runs, each route's corners, the end's total. Never 17: a stored route may have one corner.
@@ -77,12 +79,12 @@ extern "C" {
  *
  * The place of a job's and of a plan book's refusal is that of the kind byte of the record at fault, from 0. With 3 and 12 it is
  * the length where the bytes end behind a record that is no end; with 5 and 12 it is the byte after the end record where there is
- * one; with 2 and 11 it is 0. The place of a list's refusal is the index of the run at fault, from 0; with 3 it is the list's
+ * one; with 1, 2 and 11 it is 0. The place of a list's refusal is the index of the run at fault, from 0; with 3 it is the list's
  * length, with 9 it is 32, with 2 it is 0. In a choice the job's refusals have the job's places, and a book's has the book: 1 for
  * the first, 2 for the second. */
 enum trench_refusal {
-    TRENCH_SHORT_WORK = 1,     /* work words under 16,384: never answered here, since the function has its own */
-    TRENCH_SHORT_BUFFER = 2,   /* plan buffer under 40,960 bytes; job buffer shorter than 8 bytes plus 19 a run */
+    TRENCH_SHORT_WORK = 1,     /* work words fewer than the forecast: told by trench_plan_in alone */
+    TRENCH_SHORT_BUFFER = 2,   /* plan buffer shorter than the forecast; job buffer shorter than 8 bytes plus 19 a run */
     TRENCH_CUT = 3,            /* the bytes end inside a record, or before an end record; a list of no whole number of runs */
     TRENCH_UNKNOWN_KIND = 4,   /* unknown kind of record */
     TRENCH_OUT_OF_PLACE = 5,   /* first record no head, a second head, or a byte after the end record */
@@ -107,9 +109,37 @@ enum trench_refusal {
     TRENCH_COINCIDENT = 17     /* a run whose two points coincide */
 };
 
-/* Plans a job.
+/* ---- the forecast ----
  *
- * Gives the plan's length in bytes, above 0, or minus the refusal number, below 0.
+ * What the planner is to be lent, told from the job alone without planning it. Columns are the distinct x of the job's points, rows
+ * the distinct y; both together are its lines.
+ *
+ *   words    4 times columns times rows
+ *   bytes    22, and for each run 9 plus 9 times one less than the lines that touch its box
+ *
+ * A job without runs has 0 words and 22 bytes. Lent the forecast or more, the planner never tells 1 or 2; lent less, it tells one
+ * of them for every well-formed job. A plan is never longer than the forecast's bytes, and may be shorter.
+ *
+ *     int32_t bytes = trench_bytes(job, job_len);
+ *     uint8_t *out = bytes < 0 ? NULL : malloc((size_t)bytes);
+ *     if (out)
+ *         length = trench_plan(job, job_len, out, (size_t)bytes);
+ *
+ * Both functions are lent the job alone, under the conditions of trench_plan, and refuse one that is not well formed, with the
+ * planner's number; never with 1, 2 or 11. */
+
+/* The number of work words, from 0 to 16,384, or minus the refusal number, below 0. */
+int32_t trench_words(const uint8_t *job, size_t job_len);
+
+/* The number of bytes of the plan buffer, from 22 to 36,886, or minus the refusal number, below 0. */
+int32_t trench_bytes(const uint8_t *job, size_t job_len);
+
+/* ---- the planner ---- */
+
+/* Plans a job, with work words of its own.
+ *
+ * Gives the plan's length in bytes, above 0, or minus the refusal number, below 0. It never tells 1, and 2 where `out_len` is below
+ * the forecast's bytes.
  *
  * Accepted: the plan book fills the first bytes of `out`, as many as the answer says; no later byte is changed. Every route
  * runs from its run's first point to its second along survey lines and is as long as their Manhattan distance; `trench` is
@@ -128,9 +158,19 @@ enum trench_refusal {
  */
 int32_t trench_plan(const uint8_t *job, size_t job_len, uint8_t *out, size_t out_len);
 
-/* The place of the refusal that trench_plan tells for this job and a plan buffer of `out_len` bytes; 0 where it tells none. It is
- * lent the job alone, under the conditions of trench_plan, and plans nothing. */
-size_t trench_plan_place(const uint8_t *job, size_t job_len, size_t out_len);
+/* Plans a job in work words that are lent: as trench_plan, and besides it tells 1 where `work_len` is below the forecast's words.
+ *
+ * Accepted: the first words of `work`, as many as the forecast says, are 0; no later word is changed. What the words hold at entry
+ * does not matter.
+ * Refused: no word of `work` and no byte of `out` is changed.
+ *
+ * What the caller owes besides: `work` points to `work_len` words, aligned as the machine wants them; it is not null, even where
+ * its length is 0; it overlaps neither `job` nor `out`, and is used by nobody else during the call. */
+int32_t trench_plan_in(const uint8_t *job, size_t job_len, uint32_t *work, size_t work_len, uint8_t *out, size_t out_len);
+
+/* The place of the refusal that trench_words, trench_bytes, trench_plan and trench_plan_in tell for this job; 0 where it is 1, 2 or
+ * 11, and where they tell none. It is lent the job alone, under the conditions of trench_plan, and plans nothing. */
+size_t trench_plan_place(const uint8_t *job, size_t job_len);
 
 /* ---- jobs from runs ---- */
 
@@ -140,9 +180,9 @@ size_t trench_plan_place(const uint8_t *job, size_t job_len, size_t out_len);
  * Gives the book's length in bytes, 8 plus 19 a run, or minus the refusal number, below 0.
  *
  * Accepted: the job book fills the first bytes of `out`, as many as the answer says; no later byte is changed. Read back, it has
- * the job number and the runs that were lent, so trench_plan refuses it with 11 or not at all, given a plan buffer that is long
- * enough; and every well-formed job, stars or not, is what this function writes for its number and runs. An empty list is a job
- * without runs, of 8 bytes.
+ * the job number and the runs that were lent, so trench_plan, lent the forecast, refuses it with 11 or not at all; and every
+ * well-formed job, stars or not, is what this function writes for its number and runs. An empty list is a job without runs, of 8
+ * bytes.
  * Refused: no byte of `out` is changed. The numbers of `runs` are never changed.
  *
  *     const int32_t runs[] = {1, 0, 0, 40, 30, 2, 0, 10, 40, 10};

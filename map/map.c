@@ -74,8 +74,8 @@ static size_t read_file(const char *name, uint8_t *bytes, size_t room)
 static const char *words(int32_t number)
 {
     static const char *const meaning[] = {
-        [TRENCH_SHORT_WORK] = "work words under 16,384",
-        [TRENCH_SHORT_BUFFER] = "plan buffer under 40,960 bytes",
+        [TRENCH_SHORT_WORK] = "work words fewer than the forecast",
+        [TRENCH_SHORT_BUFFER] = "plan buffer shorter than the forecast",
         [TRENCH_CUT] = "the bytes end inside a record, or before an end record",
         [TRENCH_UNKNOWN_KIND] = "unknown kind of record",
         [TRENCH_OUT_OF_PLACE] = "first record no head, a second head, or a byte after the end record",
@@ -101,22 +101,53 @@ static void refuse(const char *name, int32_t number, size_t place)
     exit(REFUSED);
 }
 
+/* ---- plan books ---- */
+
+/* A plan book, and the name under which it came. */
+struct book {
+    const char *name;
+    uint8_t *bytes;
+    size_t length;
+};
+
+static void make_room(struct book *book, size_t room)
+{
+    book->bytes = malloc(room);
+    if (!book->bytes)
+        fail(book->name, "is more than this machine has memory for");
+}
+
+static void read_book(const char *name, struct book *book)
+{
+    book->name = name;
+    make_room(book, TRENCH_LONGEST_PLAN + 1);
+    book->length = read_file(name, book->bytes, TRENCH_LONGEST_PLAN + 1);
+}
+
 /* ---- the job ---- */
 
-/* Has a job planned. Gives the plan's length. */
-static size_t plan_job(const char *name, const uint8_t *job, size_t length, uint8_t *book, size_t room)
+/* The answer for a job; a refusal ends the program. */
+static size_t accepted(const char *name, const uint8_t *job, size_t length, int32_t answer)
 {
-    int32_t planned = trench_plan(job, length, book, room);
-    if (planned <= 0)
-        refuse(name, -planned, trench_plan_place(job, length, room));
-    return (size_t)planned;
+    if (answer < 0)
+        refuse(name, -answer, trench_plan_place(job, length));
+    return (size_t)answer;
+}
+
+/* Has a job planned into a book of just the bytes that the forecast asks for. */
+static void plan_job(const char *name, const uint8_t *job, size_t length, struct book *book)
+{
+    size_t room = accepted(name, job, length, trench_bytes(job, length));
+    book->name = name;
+    make_room(book, room);
+    book->length = accepted(name, job, length, trench_plan(job, length, book->bytes, room));
 }
 
 /* Reads a job and has it planned. */
-static size_t plan_file(const char *name, uint8_t *book, size_t room)
+static void plan_file(const char *name, struct book *book)
 {
     uint8_t job[JOB_ROOM];
-    return plan_job(name, job, read_file(name, job, sizeof job), book, room);
+    plan_job(name, job, read_file(name, job, sizeof job), book);
 }
 
 /* ---- the job of clicked points ---- */
@@ -235,7 +266,7 @@ static void write_file(const char *name, const uint8_t *bytes, size_t length)
 
 /* Makes the job of this number and these points, or those of standard input where there are none, stores it under a name, and has
  * it planned. What runs a job may have is for trench_job to say. */
-static size_t plan_clicks(const char *number, const char *name, char **points, uint8_t *book, size_t room)
+static void plan_clicks(const char *number, const char *name, char **points, struct book *book)
 {
     static struct runs runs;
     uint8_t job[TRENCH_LONGEST_JOB];
@@ -251,23 +282,10 @@ static size_t plan_clicks(const char *number, const char *name, char **points, u
     if (length < 0)
         refuse_runs(name, -length, trench_job_place(job_number, runs.list, runs.length, job, sizeof job));
     write_file(name, job, (size_t)length);
-    return plan_job(name, job, (size_t)length, book, room);
+    plan_job(name, job, (size_t)length, book);
 }
 
 /* ---- one of two plan books ---- */
-
-/* A plan book, and the name under which it came. */
-struct book {
-    const char *name;
-    uint8_t bytes[TRENCH_PLAN_ROOM];
-    size_t length;
-};
-
-static void read_book(const char *name, struct book *book)
-{
-    book->name = name;
-    book->length = read_file(name, book->bytes, sizeof book->bytes);
-}
 
 /* Tells the refusal of a job and two plan books: of a book, where it is one that a book has and its place is 1 or 2, else of the
  * job. No run's record stands at these places of a job, so that 8 there is a book's. */
@@ -942,10 +960,10 @@ int main(int argc, char **argv)
         book = choose(argv[2], books);
     } else if (stored) {
         read_book(argv[2], &books[0]);
+    } else if (clicked) {
+        plan_clicks(argv[2], argv[3], argv + 4, &books[0]);
     } else {
-        books[0].name = argv[clicked ? 3 : 1];
-        books[0].length = clicked ? plan_clicks(argv[2], argv[3], argv + 4, books[0].bytes, sizeof books[0].bytes)
-                                  : plan_file(argv[1], books[0].bytes, sizeof books[0].bytes);
+        plan_file(argv[1], &books[0]);
     }
     read_plan(book->name, book->bytes, book->length, &plan);
     draw(&plan);

@@ -17,8 +17,8 @@ fn main() {
     println!("cargo:rerun-if-changed={}", archive.display());
     println!("cargo:rustc-link-lib=static=trench_archive_under_test");
     println!("cargo:rustc-env=TRENCH_ARCHIVE_COPY={}", copy.display());
-    let tuned = ["-DTUNED", "-Dtable_plan=tuned_plan", "-Dtable_plan_clearing=tuned_plan_clearing"];
-    let tuned = [&tuned[..], &["-Dtable_frame=tuned_frame", "-Dtable_rounds=tuned_rounds"]].concat();
+    let tuned =
+        ["-DTUNED", "-Dtable_plan_in=tuned_plan_in", "-Dtable_frame=tuned_frame", "-Dtable_rounds=tuned_rounds"];
     let asked = ["-Dplain_read=trench_read", "-Dplain_places=trench_places", "-Dplain_route=trench_route"];
     let rounds = ["-Dplain_read_rounds=archive_read_rounds", "-Dplain_ask_rounds=archive_ask_rounds"];
     let asked = [&asked[..], &["-Dplain_corner=trench_corner"], &rounds].concat();

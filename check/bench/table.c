@@ -1,6 +1,6 @@
 /* A plain C planner by the table algorithm (a table of best sharing over the centre's box, four words a vertex, for one group after
- * the other), written to be fast and not to be proved: what the proved planner is timed against, and what stands in for it while
- * it is not built.
+ * the other) in lent work words, written to be fast and not to be proved: what the proved planner is timed against, and what
+ * stands in for it while it is not built.
  * It is compiled twice: plain, and with TUNED defined. Then lines are found by counting, each run's box is made once, and the
  * first row, the first column and the inner vertices of the table are filled apart, as the proved planner does all this. */
 #include "table.h"
@@ -8,8 +8,9 @@
 #include <stdbool.h>
 #include <string.h>
 
-enum { MOST_RUNS = 32, MOST_LINES = 64, WORDS = 16384, PLAN_ROOM = 40960, FAR = 1000000, TOP_NUMBER = 9999, NOBODY = 255 };
-enum { PLAN_HEAD_LENGTH = 19, BLANK_PLAN = 22 };
+enum { MOST_RUNS = 32, MOST_LINES = 64, FAR = 1000000, TOP_NUMBER = 9999, NOBODY = 255 };
+enum { MOST_WORDS = 4 * MOST_LINES * MOST_LINES };
+enum { PLAN_HEAD_LENGTH = 19, BLANK_PLAN = 22, ROUTE_LENGTH = 9, CORNER_LENGTH = 9 };
 enum { JOB_HEAD = 0x48, RUN = 0x52, END = 0x5A, PLAN_HEAD = 0x51, ROUTE = 0x4F, CORNER = 0x43 };
 
 struct run {
@@ -726,46 +727,50 @@ static size_t write_blank(const struct job *job, uint8_t *out)
     return BLANK_PLAN;
 }
 
-/* Reads a job book and finds its groups; 0, or the refusal number. */
-static int survey(struct job *job, const uint8_t *bytes, size_t length)
+/* The forecast of a job whose grid is laid. */
+static size_t words_of(const struct job *job)
+{
+    return (size_t)(4 * job->columns * job->rows);
+}
+
+/* A route passes one vertex less than there are lines that touch its box, and every corner is one of them. */
+static size_t bytes_of(const struct job *job)
+{
+    size_t bytes = BLANK_PLAN;
+    for (int i = 0; i < job->count; i++) {
+        const struct run *run = &job->runs[i];
+        size_t lines = span(run->column[0], run->column[1]) + 1 + span(run->row[0], run->row[1]) + 1;
+        bytes += ROUTE_LENGTH + CORNER_LENGTH * (lines - 1);
+    }
+    return bytes;
+}
+
+/* Reads a job book, tests what is lent for it and finds its groups; 0, or the refusal number. */
+static int survey(struct job *job, const uint8_t *bytes, size_t length, size_t work_len, size_t out_len)
 {
     int refused = read_job(job, bytes, length);
     if (refused)
         return refused;
     lay_grid(job);
+    if (work_len < words_of(job))
+        return 1;
+    if (out_len < bytes_of(job))
+        return 2;
     return find_centres(job) ? 0 : 11;
 }
 
-static int32_t plan(const uint8_t *bytes, size_t length, uint32_t *table, uint8_t *out, size_t out_len)
+int32_t table_plan_in(const uint8_t *bytes, size_t length, uint32_t *work, size_t work_len, uint8_t *out, size_t out_len)
 {
     struct job job;
     struct layout layout;
-    if (out_len < PLAN_ROOM)
-        return -2;
-    int refused = survey(&job, bytes, length);
+    int refused = survey(&job, bytes, length, work_len, out_len);
     if (refused)
         return -refused;
     if (job.count == 0)
         return (int32_t)write_blank(&job, out);
-    uint32_t saved = lay_groups(&job, table, &layout);
+    uint32_t saved = lay_groups(&job, work, &layout);
+    memset(work, 0, words_of(&job) * sizeof *work);
     return (int32_t)write_plan(&job, &layout, saved, out);
-}
-
-int32_t table_plan(const uint8_t *job, size_t job_len, uint8_t *out, size_t out_len)
-{
-    uint32_t table[WORDS];
-    return plan(job, job_len, table, out, out_len);
-}
-
-/* The compiler leaves out the second clearing, since nobody reads these words again, as it does in the proved planner's
- * own words. */
-int32_t table_plan_clearing(const uint8_t *job, size_t job_len, uint8_t *out, size_t out_len)
-{
-    uint32_t table[WORDS];
-    memset(table, 0, sizeof table);
-    int32_t answer = plan(job, job_len, table, out, out_len);
-    memset(table, 0, sizeof table);
-    return answer;
 }
 
 /* ---- the table alone ---- */
@@ -783,7 +788,7 @@ static void put_lines(struct sink *s, const uint32_t *on, const uint32_t *over, 
 static bool frame_of(const uint8_t *bytes, size_t length, uint32_t group, struct frame *f)
 {
     struct job job;
-    if (survey(&job, bytes, length) || group >= (uint32_t)job.groups)
+    if (survey(&job, bytes, length, SIZE_MAX, SIZE_MAX) || group >= (uint32_t)job.groups)
         return false;
     make_frame(&job, job.centre[group], f);
     return true;
@@ -808,7 +813,7 @@ uint32_t table_rounds(const uint8_t *job, size_t job_len, uint32_t group, uint32
 {
     struct frame f;
     struct steps steps = { .count = 0 };
-    uint32_t table[WORDS], best = 1, all = 0;
+    uint32_t table[MOST_WORDS], best = 1, all = 0;
     if (frame_of(job, job_len, group, &f))
         for (uint32_t i = 0; i < rounds; i++) {
             best = fill(&f, table);

@@ -1,11 +1,14 @@
-//! The comparison of a planner, called as C calls `trench_plan` and `trench_plan_place`, with the independent reading: many
-//! jobs of all kinds, each with every size of plan buffer that matters. Well-formed jobs are written again besides, and plans are
-//! handed back.
+//! The comparison of a planner, called as C calls `trench_plan_in`, `trench_plan` and what is asked of a job alone, with the independent
+//! reading: many jobs of all kinds, each with every number of work words and every size of plan buffer that matters. Well-formed jobs
+//! are written again besides, and plans are handed back.
+
+use std::fmt;
 
 use crate::book::{hex, job_bytes};
 use crate::choose::{Chooser, faults_of_handing_back};
 use crate::damage;
 use crate::facts;
+use crate::forecast::{Forecast, MOST_BYTES, MOST_WORDS, forecast};
 use crate::generate::{self, CROSSINGS, KINDS};
 use crate::graph::Survey;
 use crate::job::Job;
@@ -15,35 +18,89 @@ use crate::line;
 use crate::listing;
 use crate::random::Random;
 use crate::read_back::Answered;
-use crate::refusal::{self, PLAN_ROOM, Refusal};
+use crate::refusal::{self, Refusal};
 use crate::report::{Report, Subject};
 use crate::write_job::{Writer, faults_of_rewriting};
 
-/// The lengths of plan buffers that every job is tried with. In 22 bytes a blank job's plan has room, and they are too few.
-pub const SIZES: [usize; 6] = [0, 1, 22, PLAN_ROOM - 1, PLAN_ROOM, PLAN_ROOM + 1];
+/// What a call is lent besides the job.
+#[derive(Clone, Copy, Debug, PartialEq, Eq)]
+pub struct Loan {
+    /// The number of work words; none where the function has its own.
+    pub words: Option<usize>,
+    /// The length of the plan buffer.
+    pub bytes: usize,
+}
+
+impl fmt::Display for Loan {
+    fn fmt(&self, out: &mut fmt::Formatter) -> fmt::Result {
+        match self.words {
+            Some(words) => write!(out, "{words} words and {} bytes", self.bytes),
+            None => write!(out, "own words and {} bytes", self.bytes),
+        }
+    }
+}
+
+/// What a job of this forecast is tried with: just that, one less of each and of both, none of each and of both, one more of both, and
+/// the most that any job needs. One that is not well formed is tried with nothing, with little and with that.
+pub fn loans(forecast: Option<Forecast>) -> Vec<Loan> {
+    let most = Forecast { words: MOST_WORDS, bytes: MOST_BYTES };
+    let Forecast { words, bytes } = forecast.unwrap_or(Forecast { words: 1, bytes: 22 });
+    let fewer = words.saturating_sub(1);
+    let lent = [(words, bytes), (fewer, bytes), (words, bytes - 1), (fewer, bytes - 1), (words + 1, bytes + 1)];
+    let lent = lent.into_iter().chain([(0, 0), (0, bytes), (words, 0), (most.words, most.bytes)]);
+    let mut loans: Vec<Loan> = lent.map(|(words, bytes)| Loan { words: Some(words), bytes }).collect();
+    let own = [bytes, bytes - 1, 0, bytes + 1, most.bytes];
+    loans.extend(own.map(|bytes| Loan { words: None, bytes }));
+    loans
+}
+
+/// What is asked of a job alone.
+#[derive(Clone, Copy, Debug, PartialEq, Eq)]
+pub enum Asked {
+    /// The forecast's words, or minus the refusal number.
+    Words,
+    /// The forecast's bytes, or minus the refusal number.
+    Bytes,
+    /// The place of that refusal, 0 for none.
+    Place,
+}
 
 /// One call as its caller saw it.
 pub struct Called {
     /// The plan's length, or minus the refusal number.
     pub answer: i32,
-    /// A byte outside the plan buffer that was changed, in words.
+    /// A byte outside what the call may change that was changed, in words.
     pub strayed: Option<String>,
 }
 
-/// Whoever calls the planner: lends it memory of exactly these lengths, and watches the memory around it.
+/// Whoever calls the planner: lends it memory of exactly these lengths, and watches the memory around it. A planner need not have all of
+/// these functions.
 pub trait Caller {
-    /// Calls the planner with these job bytes and a plan buffer of this content, which it then holds as the call left it.
-    fn call(&mut self, job: &[u8], out: &mut [u8]) -> Called;
+    /// Calls the planner that is lent its words, with these job bytes and with work words and a plan buffer of this content, which
+    /// then hold what the call left.
+    fn plan_in(&mut self, _job: &[u8], _work: &mut [u32], _out: &mut [u8]) -> Option<Called> {
+        None
+    }
 
-    /// Asks with these job bytes for the place of the refusal with a plan buffer of this length; none where the planner has no
-    /// such function.
-    fn place(&mut self, job: &[u8], out_len: usize) -> Option<Answered>;
+    /// The same for the planner with words of its own.
+    fn plan(&mut self, _job: &[u8], _out: &mut [u8]) -> Option<Called> {
+        None
+    }
 
-    /// The writer of job books that stands beside the planner, if there is one.
-    fn writer(&mut self) -> Option<&mut dyn Writer>;
+    /// Asks something of these job bytes alone.
+    fn ask(&mut self, _asked: Asked, _job: &[u8]) -> Option<Answered> {
+        None
+    }
 
-    /// The chooser between two plan books that stands beside the planner, if there is one.
-    fn chooser(&mut self) -> Option<&mut dyn Chooser>;
+    /// The writer of job books that stands beside the planner.
+    fn writer(&mut self) -> Option<&mut dyn Writer> {
+        None
+    }
+
+    /// The chooser between two plan books that stands beside the planner.
+    fn chooser(&mut self) -> Option<&mut dyn Chooser> {
+        None
+    }
 }
 
 /// A job book to try, with what was made to be wrong with it where something was.
@@ -169,33 +226,24 @@ pub fn roomy_case(seed: u64, n: u64) -> Case {
 /// What is due for a job: a plan that the judge passes, or a refusal.
 type Due = Result<Judge, Refusal>;
 
-/// Tries one case with every size of buffer, and adds what was found.
+/// Tries one case with all that it may be lent, and adds what was found.
 pub fn try_case(caller: &mut dyn Caller, case: &Case, random: &mut Random, report: &mut Report) {
     let mut faults = Vec::new();
-    let due = due(case, report, &mut faults);
+    let (forecast, due) = (forecast(&case.bytes), due(case, report, &mut faults));
+    faults.extend(faults_of_asking(caller, &case.bytes, forecast, report));
+    let noise = (random.words(MOST_WORDS + 1), random.bytes(MOST_BYTES + 1));
     let mut plan = Vec::new();
-    for size in SIZES {
-        let entry = random.bytes(size);
-        let mut out = entry.clone();
-        let called = caller.call(&case.bytes, &mut out);
+    for loan in loans(forecast.ok()) {
+        let due = refusal::called(forecast, loan.words.unwrap_or(MOST_WORDS), loan.bytes, due.as_ref().map_err(|r| *r));
+        let Some(call) = Call::made(caller, &case.bytes, loan, &noise) else { continue };
         report.calls += 1;
-        let mut found: Vec<String> = called.strayed.into_iter().collect();
-        match &due {
-            Ok(judge) if size >= PLAN_ROOM => {
-                found.extend(faults_of_plan(judge, called.answer, &entry, &out, &mut plan))
-            }
-            Err(refused) if size >= PLAN_ROOM => {
-                found.extend(faults_of_refusal(refused.number, called.answer, &entry, &out))
-            }
-            _ => found.extend(faults_of_refusal(2, called.answer, &entry, &out)),
-        }
-        if let Some(answered) = caller.place(&case.bytes, size) {
-            report.calls += 1;
-            let refused = due.as_ref().err().filter(|_| size >= PLAN_ROOM);
-            found.extend(faults_of_place(answered, refused.map_or(0, |refused| refused.place)));
-        }
-        faults.extend(found.iter().map(|fault| format!("buffer of {size}: {fault}")));
+        let found = match due {
+            Ok(judge) => call.faults_of_plan(judge, forecast.expect("an accepted job"), &mut plan),
+            Err(refused) => call.faults_of_refusal(refused.number),
+        };
+        faults.extend(call.called.strayed.iter().chain(&found).map(|fault| format!("{loan}: {fault}")));
     }
+    report.filled += usize::from(forecast.is_ok_and(|forecast| plan.len() == forecast.bytes));
     if let (Ok(job), Some(writer)) = (refusal::read(&case.bytes), caller.writer()) {
         report.calls += 1;
         report.written_again += 1;
@@ -243,39 +291,90 @@ fn count_facts(survey: &Survey, report: &mut Report) {
     facts::of(survey).into_iter().for_each(|fact| *report.kinds.entry(fact.to_string()).or_default() += 1);
 }
 
-/// What is wrong with an answer where a plan is due. `plan` is the last plan that was judged for this job, and becomes this one.
-fn faults_of_plan(judge: &Judge, answer: i32, entry: &[u8], out: &[u8], plan: &mut Vec<u8>) -> Vec<String> {
-    let Some(length) = usize::try_from(answer).ok().filter(|&length| length <= out.len()) else {
-        return vec![format!("the answer is {answer}, but a plan is due")];
-    };
-    let mut faults = Vec::new();
-    if out[length..] != entry[length..] {
-        faults.push("a byte behind the plan was changed".to_string());
-    }
-    if plan.is_empty() || plan[..] != out[..length] {
-        faults.extend(judge.faults(&out[..length]));
-        *plan = out[..length].to_vec();
-    }
-    faults
+/// One call, with what it was lent before and after it.
+struct Call<'a> {
+    called: Called,
+    /// The work words and the plan buffer at entry, and as the call left them.
+    entry: (&'a [u32], &'a [u8]),
+    left: (Vec<u32>, Vec<u8>),
 }
 
-/// What is wrong with an answer where this refusal is due.
-fn faults_of_refusal(number: i32, answer: i32, entry: &[u8], out: &[u8]) -> Vec<String> {
-    let mut faults = Vec::new();
-    if answer != -number {
-        faults.push(format!("the answer is {answer} and should be {}", -number));
+impl Call<'_> {
+    /// Makes a call with this loan, out of this noise; none where the planner has no such function.
+    fn made<'a>(
+        caller: &mut dyn Caller,
+        job: &[u8],
+        loan: Loan,
+        (words, bytes): &'a (Vec<u32>, Vec<u8>),
+    ) -> Option<Call<'a>> {
+        let entry = (&words[..loan.words.unwrap_or(0)], &bytes[..loan.bytes]);
+        let (mut work, mut out) = (entry.0.to_vec(), entry.1.to_vec());
+        let called = match loan.words {
+            Some(_) => caller.plan_in(job, &mut work, &mut out),
+            None => caller.plan(job, &mut out),
+        };
+        Some(Call { called: called?, entry, left: (work, out) })
     }
-    if out != entry {
-        faults.push("a refused call changed the plan buffer".to_string());
+
+    /// What is wrong where a plan is due. `plan` is the last plan that was judged for this job, and becomes this one.
+    fn faults_of_plan(&self, judge: &Judge, forecast: Forecast, plan: &mut Vec<u8>) -> Vec<String> {
+        let (answer, (work, out)) = (self.called.answer, &self.left);
+        let Some(length) = usize::try_from(answer).ok().filter(|&length| length <= out.len()) else {
+            return vec![format!("the answer is {answer}, but a plan is due")];
+        };
+        let mut faults = Vec::new();
+        let cleared = forecast.words.min(work.len());
+        if work[..cleared].iter().any(|&word| word != 0) {
+            faults.push("a word of the forecast is not 0".to_string());
+        }
+        if work[cleared..] != self.entry.0[cleared..] {
+            faults.push("a word behind the forecast was changed".to_string());
+        }
+        if length > forecast.bytes {
+            faults.push(format!("the plan has {length} bytes, and the forecast is {}", forecast.bytes));
+        }
+        if out[length..] != self.entry.1[length..] {
+            faults.push("a byte behind the plan was changed".to_string());
+        }
+        if plan.is_empty() || plan[..] != out[..length] {
+            faults.extend(judge.faults(&out[..length]));
+            *plan = out[..length].to_vec();
+        }
+        faults
     }
-    faults
+
+    /// What is wrong where this refusal is due.
+    fn faults_of_refusal(&self, number: i32) -> Vec<String> {
+        let answer = self.called.answer;
+        let wrong = (answer != -number).then(|| format!("the answer is {answer} and should be {}", -number));
+        let words = (self.left.0 != self.entry.0).then(|| "a refused call changed the work words".to_string());
+        let bytes = (self.left.1 != self.entry.1).then(|| "a refused call changed the plan buffer".to_string());
+        [wrong, words, bytes].into_iter().flatten().collect()
+    }
 }
 
-/// What is wrong with the place that is told where this one is due.
-fn faults_of_place(answered: Answered, place: usize) -> Vec<String> {
-    let told = answered.answer;
-    let wrong = (told != place as i64).then(|| format!("the place is {told} and should be {place}"));
-    wrong.into_iter().chain(answered.strayed).collect()
+/// What is wrong with the answers about a job alone, where this forecast is due, or this refusal of the job's bytes.
+fn faults_of_asking(
+    caller: &mut dyn Caller,
+    job: &[u8],
+    due: Result<Forecast, Refusal>,
+    report: &mut Report,
+) -> Vec<String> {
+    let number_of = |of: fn(Forecast) -> usize| due.map_or_else(|refused| -i64::from(refused.number), |f| of(f) as i64);
+    let place = due.err().map_or(0, |refused| refused.place as i64);
+    let asked = [
+        (Asked::Words, "the forecast's words", number_of(|forecast| forecast.words)),
+        (Asked::Bytes, "the forecast's bytes", number_of(|forecast| forecast.bytes)),
+        (Asked::Place, "the place", place),
+    ];
+    let mut faults = Vec::new();
+    for (asked, what, due) in asked {
+        let Some(Answered { answer, strayed }) = caller.ask(asked, job) else { continue };
+        report.calls += 1;
+        faults.extend((answer != due).then(|| format!("{what}: {answer} is told and should be {due}")));
+        faults.extend(strayed.map(|fault| format!("{what}: {fault}")));
+    }
+    faults
 }
 
 /// Holds what a listing program printed for one case to what is due, with the place of a refusal, and adds what was found.

@@ -1,7 +1,7 @@
 //! A second reading of documents 000 (geometry), 01 (bytes, limits, order) and 02 (later requests), which shares no code with
-//! the proved planner: an independent planner of leases, a reader and a judge of plans, the choice between two of them, a writer of
-//! jobs, the least of all cuts on survey lines or not, generators of jobs, of plan books, of lists of runs and of pairs of plan books,
-//! and the comparison of a planner, a reader, a writer and a chooser with all of these.
+//! the proved planner: an independent planner of leases and its forecast, a reader and a judge of plans, the choice between two of
+//! them, a writer of jobs, the least of all cuts on survey lines or not, generators of jobs, of plan books, of lists of runs and of
+//! pairs of plan books, and the comparison of a planner, a reader, a writer and a chooser with all of these.
 
 #![forbid(unsafe_code)]
 
@@ -17,6 +17,7 @@ pub mod damage;
 pub mod edges;
 pub mod enumerate;
 pub mod facts;
+pub mod forecast;
 pub mod foreign;
 pub mod generate;
 pub mod graph;

@@ -35,6 +35,11 @@ impl Random {
         bytes
     }
 
+    /// So many words of 32 bits.
+    pub fn words(&mut self, count: usize) -> Vec<u32> {
+        (0..count).map(|_| self.word() as u32).collect()
+    }
+
     /// A number below n, which is not 0.
     pub fn below(&mut self, n: usize) -> usize {
         (self.word() % n as u64) as usize

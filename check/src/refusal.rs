@@ -3,11 +3,9 @@
 use std::fmt;
 
 use crate::book::{END, JOB_HEAD, RUN};
+use crate::forecast::Forecast;
 use crate::graph::Survey;
 use crate::job::{FAR, Job, MOST_RUNS, Point, Run, TOP_NUMBER};
-
-/// The least plan buffer that is accepted, in bytes.
-pub const PLAN_ROOM: usize = 40_960;
 
 /// A refusal's number and place.
 #[derive(Clone, Copy, Debug, PartialEq, Eq)]
@@ -27,8 +25,8 @@ impl fmt::Display for Refusal {
 /// What a number means, in the words of documents 01 and 02.
 pub fn words(number: i32) -> &'static str {
     match number {
-        1 => "work sheet under 16,384 words",
-        2 => "plan buffer under 40,960 bytes",
+        1 => "work words fewer than the forecast",
+        2 => "plan buffer shorter than the forecast",
         3 => "the bytes end inside a record, or before an end record",
         4 => "unknown kind of record",
         5 => "first record no head, a second head, or a byte after the end record",
@@ -127,7 +125,18 @@ pub fn verdict(bytes: &[u8]) -> Result<Job, Refusal> {
     surveyed(bytes).map(|survey| survey.job)
 }
 
-/// The same, with all that was worked out for it.
+/// What is due for a call that is lent so many work words and so many bytes of plan buffer, for a job book of this forecast, or with
+/// this refusal in its place, and of this verdict: the refusals of the job's bytes come first, then 1 and 2, and last 11 (02, C-20).
+pub fn called<T>(
+    forecast: Result<Forecast, Refusal>,
+    words: usize,
+    bytes: usize,
+    verdict: Result<T, Refusal>,
+) -> Result<T, Refusal> {
+    forecast?.refusal(words, bytes).map_or(verdict, Err)
+}
+
+/// The verdict on a job book, with all that was worked out for it.
 pub fn surveyed(bytes: &[u8]) -> Result<Survey, Refusal> {
     let survey = Survey::of(read(bytes)?);
     if survey.graph.stars().is_some() { Ok(survey) } else { Err(Refusal { number: 11, place: 0 }) }

@@ -45,6 +45,8 @@ pub struct Report {
     pub groups: BTreeMap<usize, usize>,
     /// The number of job books that were written again.
     pub written_again: usize,
+    /// The number of plans that need every byte of their job's forecast.
+    pub filled: usize,
     /// The number of plans that the chooser was lent, as both books of their job.
     pub handed_back: usize,
     /// The number of bytes of the longest plan, or of the longest job book that was written.
@@ -66,6 +68,7 @@ impl Report {
             outcomes: BTreeMap::new(),
             groups: BTreeMap::new(),
             written_again: 0,
+            filled: 0,
             handed_back: 0,
             longest: 0,
             faults: Vec::new(),
@@ -78,6 +81,7 @@ impl Report {
         self.books += other.books;
         self.calls += other.calls;
         self.written_again += other.written_again;
+        self.filled += other.filled;
         self.handed_back += other.handed_back;
         self.longest = self.longest.max(other.longest);
         other.accepted.into_iter().for_each(|(runs, count)| *self.accepted.entry(runs).or_default() += count);
@@ -148,6 +152,9 @@ impl fmt::Display for Report {
         }
         if self.written_again > 0 {
             write!(out, "; {} job books written again", self.written_again)?;
+        }
+        if self.filled > 0 {
+            write!(out, "; {} plans that need every byte of the forecast", self.filled)?;
         }
         if self.handed_back > 0 {
             write!(out, "; {} plans handed back", self.handed_back)?;

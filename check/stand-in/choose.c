@@ -159,11 +159,12 @@ static int32_t refused(const uint8_t *job, size_t runs, const uint8_t *plan, con
 /* The answer, and the place of a refusal. */
 static int32_t answer(const uint8_t *job, size_t job_len, const uint8_t *const book[2], const size_t length[2], size_t *place)
 {
-    static _Thread_local uint8_t plan[TRENCH_PLAN_ROOM];
-    int32_t planned = trench_plan(job, job_len, plan, sizeof plan);
+    static _Thread_local uint32_t work[TRENCH_MOST_WORDS];
+    static _Thread_local uint8_t plan[TRENCH_LONGEST_PLAN];
+    int32_t planned = trench_plan_in(job, job_len, work, TRENCH_MOST_WORDS, plan, sizeof plan);
     *place = 0;
     if (planned < 0) {
-        *place = trench_plan_place(job, job_len, sizeof plan);
+        *place = trench_plan_place(job, job_len);
         return planned;
     }
     for (size_t i = 0; i < 2; i++) {

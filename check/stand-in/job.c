@@ -1,5 +1,5 @@
-/* A plain C writer of job books, and the places of a job's refusals: what stands in for those of the archive while it is not
- * built. */
+/* A plain C writer of job books, the forecast, the places of a job's refusals, and the planner with work words of its own: what stands
+ * in for those of the archive while it is not built. */
 #include <stdbool.h>
 #include <string.h>
 
@@ -74,7 +74,15 @@ size_t trench_job_place(uint32_t number, const int32_t *runs, size_t runs_len, c
     return judge(runs, runs_len, out_len).place;
 }
 
-/* ---- the places of a job's refusals ---- */
+/* ---- the planner with words of its own ---- */
+
+int32_t trench_plan(const uint8_t *job, size_t job_len, uint8_t *out, size_t out_len)
+{
+    uint32_t work[TRENCH_MOST_WORDS];
+    return trench_plan_in(job, job_len, work, TRENCH_MOST_WORDS, out, out_len);
+}
+
+/* ---- the refusals of a job that is not well formed ---- */
 
 static uint32_t half_at(const uint8_t *p)
 {
@@ -91,33 +99,87 @@ static size_t record_length(uint8_t kind)
     return kind == HEAD ? HEAD_LENGTH : kind == RUN ? RUN_LENGTH : kind == END ? END_LENGTH : 0;
 }
 
-/* Whether a run may follow one of this number, from 0 on. */
-static bool is_right(const uint8_t *run, uint32_t before)
+/* The number with which a run is refused behind one of this number, from 0 on; 0 for none. */
+static int32_t wrong_run(const uint8_t *run, uint32_t before)
 {
+    if (half_at(run + 1) <= before || half_at(run + 1) > TOP_NUMBER)
+        return TRENCH_RUN_NUMBER;
     for (int k = 0; k < 4; k++)
         if (outside(word_at(run + 3 + 4 * k)))
-            return false;
-    return half_at(run + 1) > before && half_at(run + 1) <= TOP_NUMBER && memcmp(run + 3, run + 11, 8) != 0;
+            return TRENCH_COORDINATE;
+    return memcmp(run + 3, run + 11, 8) == 0 ? TRENCH_COINCIDENT : 0;
 }
 
-/* With 2 and 11, and for a job that is planned, the place is 0: whether the groups are stars need not be asked. */
-size_t trench_plan_place(const uint8_t *job, size_t job_len, size_t out_len)
+/* The first of the refusals 3 to 9 and 17 that applies, and the number of runs where none does. */
+static struct refusal read_job(const uint8_t *job, size_t job_len, size_t *runs)
 {
-    uint32_t runs = 0, before = 0;
-    if (out_len < TRENCH_PLAN_ROOM)
-        return 0;
+    uint32_t before = 0;
+    *runs = 0;
     for (size_t at = 0;;) {
         size_t length = at < job_len ? record_length(job[at]) : 0;
-        if (length == 0 || job_len - at < length || (job[at] == HEAD) != (at == 0))
-            return at;
-        if (job[at] == RUN && (runs == TRENCH_MOST_RUNS || !is_right(job + at, before)))
-            return at;
-        if (job[at] == RUN) {
-            before = half_at(job + at + 1);
-            runs++;
-        }
-        if (job[at] == END)
-            return half_at(job + at + 1) != runs ? at : at + length < job_len ? at + length : 0;
+        int32_t wrong = at == job_len ? TRENCH_CUT : length == 0 ? TRENCH_UNKNOWN_KIND : job_len - at < length ? TRENCH_CUT : 0;
+        if (!wrong && (job[at] == HEAD) != (at == 0))
+            wrong = TRENCH_OUT_OF_PLACE;
+        if (!wrong && job[at] == RUN)
+            wrong = *runs == TRENCH_MOST_RUNS ? TRENCH_TOO_MANY_RUNS : wrong_run(job + at, before);
+        if (!wrong && job[at] == END && half_at(job + at + 1) != *runs)
+            wrong = TRENCH_WRONG_COUNT;
+        if (wrong)
+            return (struct refusal){ wrong, at };
         at += length;
+        if (length == END_LENGTH)
+            return at < job_len ? (struct refusal){ TRENCH_OUT_OF_PLACE, at } : (struct refusal){ 0, 0 };
+        if (length == RUN_LENGTH) {
+            before = half_at(job + at - RUN_LENGTH + 1);
+            ++*runs;
+        }
     }
+}
+
+/* 1, 2 and 11 have place 0: neither what is lent nor whether the groups are stars need be asked. */
+size_t trench_plan_place(const uint8_t *job, size_t job_len)
+{
+    size_t runs;
+    return read_job(job, job_len, &runs).place;
+}
+
+/* ---- the forecast ---- */
+
+/* How many different coordinates of one axis, 0 for x and 1 for y, the points of a job have from low to high. */
+static int32_t lines(const uint8_t *job, size_t runs, int axis, int32_t low, int32_t high)
+{
+    int32_t seen[2 * TRENCH_MOST_RUNS], count = 0;
+    for (size_t i = 0; i < 2 * runs; i++) {
+        int32_t at = word_at(job + HEAD_LENGTH + RUN_LENGTH * (i / 2) + 3 + 8 * (i % 2) + 4 * (size_t)axis), k = 0;
+        while (k < count && seen[k] != at)
+            k++;
+        if (k == count && low <= at && at <= high)
+            seen[count++] = at;
+    }
+    return count;
+}
+
+/* The lines of one axis that touch a run's box. */
+static int32_t touching(const uint8_t *job, size_t runs, const uint8_t *run, int axis)
+{
+    int32_t p = word_at(run + 3 + 4 * axis), q = word_at(run + 11 + 4 * axis);
+    return lines(job, runs, axis, p < q ? p : q, p < q ? q : p);
+}
+
+int32_t trench_words(const uint8_t *job, size_t job_len)
+{
+    size_t runs;
+    int32_t refused = read_job(job, job_len, &runs).number;
+    return refused ? -refused : 4 * lines(job, runs, 0, -FAR, FAR) * lines(job, runs, 1, -FAR, FAR);
+}
+
+int32_t trench_bytes(const uint8_t *job, size_t job_len)
+{
+    size_t runs;
+    int32_t refused = read_job(job, job_len, &runs).number, bytes = 22;
+    for (size_t i = 0; !refused && i < runs; i++) {
+        const uint8_t *run = job + HEAD_LENGTH + RUN_LENGTH * i;
+        bytes += 9 + 9 * (touching(job, runs, run, 0) + touching(job, runs, run, 1) - 1);
+    }
+    return refused ? -refused : bytes;
 }

@@ -6,11 +6,13 @@ use std::collections::BTreeSet;
 
 use common::{EIGHT, SEVEN, SEVENTEEN, Test, read_by};
 use trench_check::choose::Chooser;
-use trench_check::compare::{Called, Caller, Case, SIZES, case, try_case, try_cases, try_listing};
+use trench_check::compare::{Asked, Called, Caller, Case, case, loans, try_case, try_cases, try_listing};
 use trench_check::damage::{NOWHERE, damaged};
 use trench_check::enumerate::Path;
 use trench_check::facts;
+use trench_check::forecast::{Forecast, MOST_WORDS, forecast};
 use trench_check::graph::{Graph, Survey};
+use trench_check::grid::Grid;
 use trench_check::job::{Job, Point, Run};
 use trench_check::job_list::book_of;
 use trench_check::listing;
@@ -19,57 +21,55 @@ use trench_check::plan_book::PlanBook;
 use trench_check::planner;
 use trench_check::random::Random;
 use trench_check::read_back::Answered;
-use trench_check::refusal::{self, PLAN_ROOM};
+use trench_check::refusal::{self, Refusal, called, verdict};
 use trench_check::report::{Report, Subject};
 use trench_check::write_job::Writer;
 
-/// A planner in Rust, called with exactly the lent slices.
+/// A call that strays nowhere.
+fn kept(answer: i32) -> Option<Called> {
+    Some(Called { answer, strayed: None })
+}
+
+/// A planner in Rust with words of its own, called with exactly the lent slices.
 struct Plain<F>(F);
 
 impl<F: FnMut(&[u8], &mut [u8]) -> i32> Caller for Plain<F> {
-    fn call(&mut self, job: &[u8], out: &mut [u8]) -> Called {
-        Called { answer: (self.0)(job, out), strayed: None }
-    }
-
-    fn place(&mut self, _: &[u8], _: usize) -> Option<Answered> {
-        None
-    }
-
-    fn writer(&mut self) -> Option<&mut dyn Writer> {
-        None
-    }
-
-    fn chooser(&mut self) -> Option<&mut dyn Chooser> {
-        None
+    fn plan(&mut self, job: &[u8], out: &mut [u8]) -> Option<Called> {
+        kept((self.0)(job, out))
     }
 }
 
-/// A planner with what stands beside it: these places, and a writer that writes this.
-struct Beside<P, W> {
+/// A planner that is lent its words.
+struct Lent<F>(F);
+
+impl<F: FnMut(&[u8], &mut [u32], &mut [u8]) -> i32> Caller for Lent<F> {
+    fn plan_in(&mut self, job: &[u8], work: &mut [u32], out: &mut [u8]) -> Option<Called> {
+        kept((self.0)(job, work, out))
+    }
+}
+
+/// A planner with what stands beside it: these answers about a job alone, and a writer that writes this.
+struct Beside<A, W> {
     planner: fn(&[u8], &mut [u8]) -> i32,
-    place: P,
+    answer: A,
     book: W,
 }
 
-impl<P: FnMut(&[u8], usize) -> usize, W: FnMut(u32, &[i32]) -> Vec<u8>> Caller for Beside<P, W> {
-    fn call(&mut self, job: &[u8], out: &mut [u8]) -> Called {
-        Called { answer: (self.planner)(job, out), strayed: None }
+impl<A: FnMut(Asked, &[u8]) -> i64, W: FnMut(u32, &[i32]) -> Vec<u8>> Caller for Beside<A, W> {
+    fn plan(&mut self, job: &[u8], out: &mut [u8]) -> Option<Called> {
+        kept((self.planner)(job, out))
     }
 
-    fn place(&mut self, job: &[u8], out_len: usize) -> Option<Answered> {
-        Some(Answered { answer: (self.place)(job, out_len) as i64, strayed: None })
+    fn ask(&mut self, asked: Asked, job: &[u8]) -> Option<Answered> {
+        Some(Answered { answer: (self.answer)(asked, job), strayed: None })
     }
 
     fn writer(&mut self) -> Option<&mut dyn Writer> {
         Some(self)
     }
-
-    fn chooser(&mut self) -> Option<&mut dyn Chooser> {
-        None
-    }
 }
 
-impl<P, W: FnMut(u32, &[i32]) -> Vec<u8>> Writer for Beside<P, W> {
+impl<A, W: FnMut(u32, &[i32]) -> Vec<u8>> Writer for Beside<A, W> {
     fn write(&mut self, number: u32, list: &[i32], out: &mut [u8]) -> Called {
         let book = (self.book)(number, list);
         out[..book.len()].copy_from_slice(&book);
@@ -83,12 +83,25 @@ impl<P, W: FnMut(u32, &[i32]) -> Vec<u8>> Writer for Beside<P, W> {
 
 /// The independent planner with the interface of `trench_plan`.
 fn right(job: &[u8], out: &mut [u8]) -> i32 {
-    if out.len() < PLAN_ROOM {
-        return -2;
-    }
-    match refusal::verdict(job) {
+    match called(forecast(job), MOST_WORDS, out.len(), verdict(job)) {
         Err(refused) => -refused.number,
         Ok(job) => write(&PlanBook::of(&job, &planner::plan(&job).expect("stars")), out),
+    }
+}
+
+/// The same with the interface of `trench_plan_in`.
+fn right_in(job: &[u8], work: &mut [u32], out: &mut [u8]) -> i32 {
+    by_verdict(called(forecast(job), work.len(), out.len(), verdict(job)), |forecast| forecast.words, work, out)
+}
+
+/// A planner in lent words of which this is due, and which clears so many of them.
+fn by_verdict(due: Result<Job, Refusal>, cleared: fn(&Forecast) -> usize, work: &mut [u32], out: &mut [u8]) -> i32 {
+    match due {
+        Err(refused) => -refused.number,
+        Ok(job) => {
+            work[..cleared(&Forecast::of(&job))].fill(0);
+            write(&PlanBook::of(&job, &planner::plan(&job).expect("stars")), out)
+        }
     }
 }
 
@@ -135,14 +148,17 @@ fn corners_alone(book: &mut PlanBook) {
 fn a_right_planner_passes() {
     let report = report(right);
     assert_eq!(report.faults, Vec::<String>::new());
-    assert_eq!((report.books, report.calls), (JOBS as usize, SIZES.len() * JOBS as usize));
+    let calls = |n: u64| loans(forecast(&case(11, n).bytes).ok()).iter().filter(|loan| loan.words.is_none()).count();
+    assert_eq!((report.books, report.calls), (JOBS as usize, (0..JOBS).map(calls).sum()));
+    let full = report.filled;
+    assert!(full > 20, "plans that need every byte of the forecast: {full}");
 }
 
 #[test]
 fn wrong_answers_are_noticed() {
     assert_noticed(|_, _| -11, "a plan is due");
     assert_noticed(|_, _| 0, "the answer is 0 and should be -2");
-    assert_noticed(|job, out| if out.len() < 40_000 { -2 } else { right(job, &mut out.to_vec()) }, "refused 12 at 0");
+    assert_noticed(|job, out| right(job, &mut out.to_vec()), "refused 12 at 0");
     assert_noticed(|job, out| right(job, out).max(-10), "the answer is -10 and should be -11");
     assert_noticed(|job, out| if job.is_empty() { -4 } else { right(job, out) }, "the answer is -4 and should be");
     let blank_refused = |job: &[u8], out: &mut [u8]| match right(job, out) {
@@ -164,8 +180,8 @@ fn wrong_bytes_are_noticed() {
     assert_noticed(touch_refused, "a refused call changed the plan buffer");
     let touch_behind = |job: &[u8], out: &mut [u8]| {
         let answer = right(job, out);
-        if answer > 0 {
-            out[answer as usize] ^= 1;
+        if let Some(byte) = usize::try_from(answer).ok().and_then(|length| out.get_mut(length)) {
+            *byte ^= 1;
         }
         answer
     };
@@ -179,11 +195,23 @@ fn wrong_bytes_are_noticed() {
 
 #[test]
 fn a_wrong_order_of_refusals_is_noticed() {
-    let buffer_last = |job: &[u8], out: &mut [u8]| match refusal::verdict(job) {
+    let buffer_last = |job: &[u8], out: &mut [u8]| match verdict(job) {
         Err(refused) => -refused.number,
         Ok(_) => right(job, out),
     };
-    assert_noticed(buffer_last, "and should be -2");
+    assert_noticed(buffer_last, "the answer is -11 and should be -2");
+    let buffer_first = |job: &[u8], out: &mut [u8]| if out.len() < 22 { -2 } else { right(job, out) };
+    assert_noticed(buffer_first, "own words and 21 bytes: the answer is -2 and should be -3");
+    let greatest_forecast = |job: &[u8], out: &mut [u8]| if out.len() < 36_886 { -2 } else { right(job, out) };
+    assert_noticed(greatest_forecast, "the answer is -2, but a plan is due");
+    let plan_alone = |job: &[u8], out: &mut [u8]| match verdict(job).map(|job| planner::plan(&job)) {
+        Ok(Some(plan)) => {
+            let book = PlanBook::of(&refusal::read(job).expect("a job"), &plan);
+            if book.bytes().len() <= out.len() { write(&book, out) } else { -2 }
+        }
+        _ => right(job, out),
+    };
+    assert_noticed(plan_alone, "and should be -2");
     let seven_for_eight = |job: &[u8], out: &mut [u8]| match right(job, out) {
         -8 => -7,
         answer => answer,
@@ -194,13 +222,13 @@ fn a_wrong_order_of_refusals_is_noticed() {
 /// A planner that asks this of each run, in this order; then whether all groups are stars; and last this of all runs.
 fn asking(of_run: &'static [Test], last: &'static [Test]) -> impl Fn(&[u8], &mut [u8]) -> i32 {
     move |bytes, out| {
-        if out.len() < PLAN_ROOM {
-            return -2;
-        }
         let job = match read_by(bytes, of_run) {
             Err(refused) => return -refused.number,
             Ok(job) => job,
         };
+        if out.len() < Forecast::of(&job).bytes {
+            return -2;
+        }
         let Some(plan) = planner::plan(&job) else { return -11 };
         match read_by(bytes, last) {
             Err(refused) => -refused.number,
@@ -247,10 +275,12 @@ fn runs_that_go_nowhere_are_noticed() {
 /// groups and centres that it found.
 fn grouped_by(meet: fn(&Run, &Run) -> bool) -> impl Fn(&[u8], &mut [u8]) -> i32 {
     move |job, out| {
-        let Some(read) = refusal::read(job).ok().filter(|_| out.len() >= PLAN_ROOM) else { return right(job, out) };
+        let Ok(read) = called(forecast(job), MOST_WORDS, out.len(), refusal::read(job)) else {
+            return right(job, out);
+        };
         let graph = Graph::by(read.runs.len(), |i, j| meet(&read.runs[i], &read.runs[j]));
         let Some(centres) = graph.centres() else { return -11 };
-        if refusal::verdict(job).is_err() {
+        if verdict(job).is_err() {
             return 22;
         }
         changed(job, out, |book| {
@@ -279,8 +309,14 @@ fn wrong_groups_are_noticed() {
     };
     assert_noticed(grouped_by(area_alone), "the head's number of groups is 2 and should be 1");
     assert_noticed(grouped_by(|_, _| false), "should be 1");
-    let one_star_alone = |job: &[u8], out: &mut [u8]| match refusal::verdict(job) {
-        Ok(job) if Survey::of(job.clone()).graph.groups().len() > 1 && out.len() >= PLAN_ROOM => -11,
+    let one_star_alone = |job: &[u8], out: &mut [u8]| match verdict(job) {
+        Ok(read) if Survey::of(read.clone()).graph.groups().len() > 1 => {
+            if right(job, out) > 0 {
+                -11
+            } else {
+                -2
+            }
+        }
         _ => right(job, out),
     };
     assert_noticed(one_star_alone, "the answer is -11, but a plan is due");
@@ -463,59 +499,217 @@ fn what_was_not_tried_is_told() {
     assert_eq!(try_cases(&mut Plain(|_: &[u8], _: &mut [u8]| -2), 11, 0, 8_000, 1).untried(), Vec::<String>::new());
 }
 
-/// The place of the independent reading.
-fn right_place(job: &[u8], out_len: usize) -> usize {
-    if out_len < PLAN_ROOM {
-        return 0;
+/// What the independent reading tells of a job alone.
+fn right_answer(asked: Asked, job: &[u8]) -> i64 {
+    match (asked, forecast(job)) {
+        (Asked::Words, Ok(forecast)) => forecast.words as i64,
+        (Asked::Bytes, Ok(forecast)) => forecast.bytes as i64,
+        (Asked::Place, due) => due.err().map_or(0, |refused| refused.place as i64),
+        (_, Err(refused)) => -i64::from(refused.number),
     }
-    refusal::verdict(job).err().map_or(0, |refused| refused.place)
 }
 
 fn right_book(number: u32, list: &[i32]) -> Vec<u8> {
     book_of(number, list, usize::MAX).expect("a well-formed list")
 }
 
-/// Wrong places or books are noticed, whatever the planner does: here it refuses all.
+/// Wrong answers about a job alone, or books, are noticed, whatever the planner does: here it refuses all.
 fn assert_noticed_beside(
-    place: impl FnMut(&[u8], usize) -> usize,
+    answer: impl FnMut(Asked, &[u8]) -> i64,
     book: impl FnMut(u32, &[i32]) -> Vec<u8>,
     words: &str,
 ) {
-    assert_one_shows(&mut Beside { planner: |_, _| -2, place, book }, words);
+    assert_one_shows(&mut Beside { planner: |_, _| -2, answer, book }, words);
 }
 
 #[test]
-fn right_places_and_books_pass() {
-    let mut beside = Beside { planner: right, place: right_place, book: right_book };
+fn right_answers_and_books_pass() {
+    let mut beside = Beside { planner: right, answer: right_answer, book: right_book };
     let report = try_cases(&mut beside, 11, 0, JOBS, 1);
     assert_eq!(report.faults, Vec::<String>::new());
-    assert_eq!(report.calls, 2 * SIZES.len() * JOBS as usize + report.written_again);
+    assert_eq!(report.calls, self::report(right).calls + 3 * JOBS as usize + report.written_again);
     let well_formed = report.accepted.values().sum::<usize>() + report.refused[&11];
     assert_eq!(report.written_again, well_formed, "every well-formed job is written again");
 }
 
+/// Tells the place that is made of a job's refusal, and another where there is none.
+fn places(change: fn(&[u8], Refusal) -> usize, none: fn(&[u8]) -> usize) -> impl Fn(Asked, &[u8]) -> i64 {
+    move |asked, job| match (asked, forecast(job)) {
+        (Asked::Place, Err(refused)) => change(job, refused) as i64,
+        (Asked::Place, Ok(_)) => none(job) as i64,
+        _ => right_answer(asked, job),
+    }
+}
+
 #[test]
 fn wrong_places_are_noticed() {
-    assert_noticed_beside(|job, room| right_place(job, room) + 1, right_book, "the place is 1 and should be 0");
-    assert_noticed_beside(|job, _| right_place(job, PLAN_ROOM), right_book, "buffer of 40959: the place is ");
-    assert_noticed_beside(|_, _| 0, right_book, "buffer of 40960: the place is 0 and should be ");
-    assert_noticed_beside(|_, _| 0, right_book, "buffer of 40961: the place is 0 and should be ");
-    let length_for_none = |job: &[u8], room: usize| match refusal::verdict(job) {
-        Ok(_) if room >= PLAN_ROOM => job.len(),
-        _ => right_place(job, room),
+    let right: fn(&[u8], Refusal) -> usize = |_, refused| refused.place;
+    assert_noticed_beside(places(right, |_| 1), right_book, "the place: 1 is told and should be 0");
+    assert_noticed_beside(places(|_, _| 0, |_| 0), right_book, "the place: 0 is told and should be 5");
+    assert_noticed_beside(places(right, <[u8]>::len), right_book, "the place: 27 is told and should be 0");
+    let no_star = |job: &[u8]| verdict(job).map_or(job.len(), |_| 0);
+    assert_noticed_beside(places(right, no_star), right_book, "is told and should be 0");
+    let record_for_after_end =
+        |_: &[u8], refused: Refusal| refused.place.saturating_sub(if refused.number == 5 { 3 } else { 0 });
+    assert_noticed_beside(places(record_for_after_end, |_| 0), right_book, "byte after the end");
+    let index_for_nowhere = |_: &[u8], refused: Refusal| match refused.number {
+        17 => (refused.place - 5) / 19,
+        _ => refused.place,
     };
-    assert_noticed_beside(length_for_none, right_book, "the place is 27 and should be 0");
-    let record_for_after_end = |job: &[u8], room: usize| match refusal::verdict(job) {
-        Err(refused) if refused.number == 5 && room >= PLAN_ROOM => refused.place.saturating_sub(3),
-        _ => right_place(job, room),
+    assert_noticed_beside(places(index_for_nowhere, |_| 0), right_book, "the place: 0 is told and should be 5");
+    assert_noticed_beside(places(index_for_nowhere, |_| 0), right_book, "the place: 1 is told and should be 24");
+}
+
+/// Tells this forecast of well-formed jobs.
+fn forecasts(of: impl Fn(&Job) -> Forecast) -> impl Fn(Asked, &[u8]) -> i64 {
+    move |asked, job| match (asked, refusal::read(job)) {
+        (Asked::Words, Ok(job)) => of(&job).words as i64,
+        (Asked::Bytes, Ok(job)) => of(&job).bytes as i64,
+        _ => right_answer(asked, job),
+    }
+}
+
+/// One of the jobs shows that its forecast was changed so.
+fn assert_noticed_forecast(change: fn(&Job, &mut Forecast), words: &str) {
+    let changed = move |job: &Job| {
+        let mut told = Forecast::of(job);
+        change(job, &mut told);
+        told
     };
-    assert_noticed_beside(record_for_after_end, right_book, "byte after the end");
-    let index_for_nowhere = |job: &[u8], room: usize| match refusal::verdict(job) {
-        Err(refused) if refused.number == 17 && room >= PLAN_ROOM => (refused.place - 5) / 19,
-        _ => right_place(job, room),
+    assert_noticed_beside(forecasts(changed), right_book, &format!("the forecast's {words}"));
+}
+
+#[test]
+fn wrong_forecasts_are_noticed() {
+    let noticed = assert_noticed_forecast;
+    noticed(|_, told| told.words += 1, "words: 1 is told and should be 0");
+    noticed(|_, told| told.words = MOST_WORDS, "words: 16384 is told and should be 16");
+    noticed(|job, told| told.words = 4 * Grid::hanan(job).columns.len().pow(2), "words: 16 is told and should be 8");
+    noticed(|job, told| told.words = 16 * job.runs.len().pow(2), "words: 64 is told and should be 16");
+    noticed(|_, told| told.bytes = 36_886, "bytes: 36886 is told and should be 22");
+    noticed(|job, told| told.bytes -= usize::from(!job.runs.is_empty()), "bytes: 57 is told and should be 58");
+    noticed(|job, told| told.bytes -= 9 * job.runs.len(), "bytes: 49 is told and should be 58");
+    noticed(|job, told| *told = without_rows(job), "bytes: 40 is told and should be 58");
+    let own_lines_alone = |job: &Job, told: &mut Forecast| {
+        let alone = |run: &Run| Forecast::of(&Job { number: job.number, runs: vec![*run] }).bytes - 22;
+        told.bytes = 22 + job.runs.iter().map(alone).sum::<usize>();
     };
-    assert_noticed_beside(index_for_nowhere, right_book, "the place is 0 and should be 5");
-    assert_noticed_beside(index_for_nowhere, right_book, "the place is 1 and should be 24");
+    noticed(own_lines_alone, "bytes: 94 is told and should be 130");
+    let of_no_star = |asked, job: &[u8]| match verdict(job) {
+        Err(refused) if refused.number == 11 && asked != Asked::Place => -11,
+        _ => right_answer(asked, job),
+    };
+    assert_noticed_beside(of_no_star, right_book, "the forecast's words: -11 is told and should be ");
+    assert_noticed_beside(of_no_star, right_book, "the forecast's bytes: -11 is told and should be ");
+    let nothing_wrong = |asked, job: &[u8]| right_answer(asked, job).max(0);
+    assert_noticed_beside(nothing_wrong, right_book, "the forecast's words: 0 is told and should be -3");
+    assert_noticed_beside(nothing_wrong, right_book, "the forecast's bytes: 0 is told and should be -17");
+}
+
+/// A forecast that counts the columns that touch a box and forgets the rows.
+fn without_rows(job: &Job) -> Forecast {
+    let rows = |run: &Run| {
+        let (low, high) = (run.first.y.min(run.second.y), run.first.y.max(run.second.y));
+        Grid::hanan(job).rows.iter().filter(|&&y| low <= y && y <= high).count()
+    };
+    let Forecast { words, bytes } = Forecast::of(job);
+    Forecast { words, bytes: bytes - 9 * job.runs.iter().map(rows).sum::<usize>() }
+}
+
+/// One of the jobs shows a fault of this planner in lent words.
+fn assert_noticed_in(planner: impl FnMut(&[u8], &mut [u32], &mut [u8]) -> i32, words: &str) {
+    assert_one_shows(&mut Lent(planner), words);
+}
+
+#[test]
+fn a_right_planner_in_lent_words_passes() {
+    let report = try_cases(&mut Lent(right_in), 11, 0, JOBS, 1);
+    assert_eq!(report.faults, Vec::<String>::new());
+    let (own, all) = (self::report(right).calls, loans(None).len() * JOBS as usize);
+    assert_eq!(report.calls, all - own, "every loan is of one kind or the other");
+}
+
+#[test]
+fn wrong_words_are_noticed() {
+    let clearing = |cleared: fn(&Forecast) -> usize| {
+        move |job: &[u8], work: &mut [u32], out: &mut [u8]| {
+            by_verdict(called(forecast(job), work.len(), out.len(), verdict(job)), cleared, work, out)
+        }
+    };
+    let (not_cleared, changed) = ("a word of the forecast is not 0", "a word behind the forecast was changed");
+    assert_noticed_in(clearing(|forecast| forecast.words.saturating_sub(1)), not_cleared);
+    assert_noticed_in(clearing(|_| 0), not_cleared);
+    let all = |job: &[u8], work: &mut [u32], out: &mut [u8]| {
+        let answer = right_in(job, work, out);
+        if answer > 0 {
+            work.fill(0);
+        }
+        answer
+    };
+    assert_noticed_in(all, changed);
+    let one_more = |job: &[u8], work: &mut [u32], out: &mut [u8]| {
+        let answer = right_in(job, work, out);
+        let behind = forecast(job).map_or(usize::MAX, |forecast| forecast.words);
+        if let Some(word) = work.get_mut(behind).filter(|_| answer > 0) {
+            *word = 0;
+        }
+        answer
+    };
+    assert_noticed_in(one_more, changed);
+    assert_noticed_in(one_more, "special: # blank (48070000005a0000): 1 words and 23 bytes: a word behind");
+    let touched = |number: i32| {
+        move |job: &[u8], work: &mut [u32], out: &mut [u8]| {
+            let answer = right_in(job, work, out);
+            if let Some(word) = work.last_mut().filter(|_| answer == -number) {
+                *word ^= 1;
+            }
+            answer
+        }
+    };
+    for number in [1, 2, 3, 7, 11, 17] {
+        assert_noticed_in(touched(number), "a refused call changed the work words");
+    }
+}
+
+#[test]
+fn a_wrong_order_with_lent_words_is_noticed() {
+    let star_first = |job: &[u8], work: &mut [u32], out: &mut [u8]| match verdict(job) {
+        Err(refused) => -refused.number,
+        Ok(_) => right_in(job, work, out),
+    };
+    assert_noticed_in(star_first, "the answer is -11 and should be -1");
+    assert_noticed_in(star_first, "the answer is -11 and should be -2");
+    let words_first =
+        |job: &[u8], work: &mut [u32], out: &mut [u8]| if work.is_empty() { -1 } else { right_in(job, work, out) };
+    assert_noticed_in(words_first, "0 words and 0 bytes: the answer is -1 and should be -3");
+    assert_noticed_in(words_first, "special: # blank (48070000005a0000): 0 words and 22 bytes: the answer is -1, but");
+    let all_words = |job: &[u8], work: &mut [u32], out: &mut [u8]| {
+        if work.len() < MOST_WORDS { -1 } else { right_in(job, work, out) }
+    };
+    assert_noticed_in(all_words, "the answer is -1, but a plan is due");
+    let bytes_first = |job: &[u8], work: &mut [u32], out: &mut [u8]| match forecast(job) {
+        Ok(forecast) if out.len() < forecast.bytes => -2,
+        _ => right_in(job, work, out),
+    };
+    assert_noticed_in(bytes_first, "the answer is -2 and should be -1");
+    let by_forecast = |of: fn(&Job) -> Forecast| {
+        move |job: &[u8], work: &mut [u32], out: &mut [u8]| {
+            let told = refusal::read(job).map(|job| of(&job));
+            let due = called(told, work.len(), out.len(), verdict(job));
+            let due = due.and_then(|job| {
+                let fits = PlanBook::of(&job, &planner::plan(&job).expect("stars")).bytes().len() <= out.len();
+                if fits { Ok(job) } else { Err(Refusal { number: 2, place: 0 }) }
+            });
+            by_verdict(due, |forecast| forecast.words, work, out)
+        }
+    };
+    assert_eq!(try_cases(&mut Lent(by_forecast(Forecast::of)), 11, 0, JOBS, 1).faults, Vec::<String>::new());
+    assert_noticed_in(by_forecast(without_rows), "and should be -2");
+    let a_byte_less = |job: &Job| {
+        let Forecast { words, bytes } = Forecast::of(job);
+        Forecast { words, bytes: bytes - usize::from(job.runs.len() > 1) }
+    };
+    assert_noticed_in(by_forecast(a_byte_less), "and should be -2");
 }
 
 #[test]
@@ -527,20 +721,20 @@ fn wrong_books_of_jobs_are_noticed() {
             book
         }
     };
-    assert_noticed_beside(right_place, changed(|book| book[1] ^= 1), "written again: 4806");
-    assert_noticed_beside(right_place, changed(|book| book[4] ^= 0x80), "is written and should be");
+    assert_noticed_beside(right_answer, changed(|book| book[1] ^= 1), "written again: 4806");
+    assert_noticed_beside(right_answer, changed(|book| book[4] ^= 0x80), "is written and should be");
     assert_noticed_beside(
-        right_place,
+        right_answer,
         changed(|book| book.truncate(5)),
         "written again: the answer is 5 and should be",
     );
     let no_blank = |number: u32, list: &[i32]| if list.is_empty() { vec![] } else { right_book(number, list) };
-    assert_noticed_beside(right_place, no_blank, "written again: the answer is 0 and should be 8");
+    assert_noticed_beside(right_answer, no_blank, "written again: the answer is 0 and should be 8");
 }
 
 /// The listing by the independent planner.
 fn right_listing(job: &[u8]) -> String {
-    match refusal::verdict(job) {
+    match verdict(job) {
         Err(refused) => listing::of_refusal(refused),
         Ok(job) => listing::of_plan(&PlanBook::of(&job, &planner::plan(&job).expect("stars"))),
     }
@@ -575,16 +769,8 @@ fn listings_are_held_to_what_is_due() {
 struct WithChooser(i64, i64);
 
 impl Caller for WithChooser {
-    fn call(&mut self, job: &[u8], out: &mut [u8]) -> Called {
-        Called { answer: right(job, out), strayed: None }
-    }
-
-    fn place(&mut self, _: &[u8], _: usize) -> Option<Answered> {
-        None
-    }
-
-    fn writer(&mut self) -> Option<&mut dyn Writer> {
-        None
+    fn plan_in(&mut self, job: &[u8], work: &mut [u32], out: &mut [u8]) -> Option<Called> {
+        kept(right_in(job, work, out))
     }
 
     fn chooser(&mut self) -> Option<&mut dyn Chooser> {

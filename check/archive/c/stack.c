@@ -1,11 +1,13 @@
 /* How much stack the archive's functions need: runs them on a stack of its own that was painted before, and looks how far it was
  * used.
  *
- *   stack JOB..            prints the greatest need in bytes, of planning the jobs, of writing jobs, of reading plan books and of
- *                          choosing between two
- *   stack --read JOB..     the same of reading alone: the jobs' plans, the longest book, and the jobs' bytes, which are no plan
- *   stack --write JOB..    the same of writing jobs from lists, and of the places of refusals
- *   stack --choose JOB..   the same of choosing between two plans of a job, which are the planner's, and of the longest book
+ *   stack JOB..            prints the greatest need in bytes of all that follow
+ *   stack --plan JOB..     of planning the jobs in the planner's own words
+ *   stack --in JOB..       of planning them in lent words
+ *   stack --ask JOB..      of their forecasts, and of the places of refusals
+ *   stack --read JOB..     of reading the jobs' plans, the longest book, and the jobs' bytes, which are no plan
+ *   stack --write JOB..    of writing jobs from lists
+ *   stack --choose JOB..   of choosing between two plans of a job, which are the planner's, and of the longest book
  *
  * Exit status 1 where the need is above TRENCH_STACK, 2 where something went wrong.
  */
@@ -21,9 +23,10 @@
 enum { ROOM = 1 << 21, PAINT = 0x5C };
 
 struct call {
-    uint8_t job[4096], book[TRENCH_PLAN_ROOM];
+    uint8_t job[4096], book[TRENCH_LONGEST_PLAN];
+    uint32_t work[TRENCH_MOST_WORDS];
     size_t length, book_length, numbers;
-    int32_t answer, corner[TRENCH_CORNER], list[(TRENCH_MOST_RUNS + 1) * TRENCH_RUN];
+    int32_t answer, words, bytes, corner[TRENCH_CORNER], list[(TRENCH_MOST_RUNS + 1) * TRENCH_RUN];
     uint32_t figures[TRENCH_FIGURES], places[TRENCH_PLACES], route[TRENCH_ROUTE];
     size_t place, corners;
 };
@@ -40,10 +43,20 @@ static void *planned(void *given)
     return given;
 }
 
-static void *placed(void *given)
+static void *planned_in(void *given)
 {
     struct call *call = given;
-    call->place = trench_plan_place(call->job, call->length, sizeof call->book);
+    call->answer = trench_plan_in(call->job, call->length, call->work, TRENCH_MOST_WORDS, call->book, sizeof call->book);
+    return given;
+}
+
+/* Asks all that is asked of a job alone. */
+static void *asked(void *given)
+{
+    struct call *call = given;
+    call->place = trench_plan_place(call->job, call->length);
+    call->words = trench_words(call->job, call->length);
+    call->bytes = trench_bytes(call->job, call->length);
     return given;
 }
 
@@ -172,35 +185,47 @@ static size_t writing(struct call *call, size_t runs)
     return bytes;
 }
 
+/* What is measured, and the word that asks for it alone. */
+enum need { PLANNING, PLANNING_IN, ASKING, READING, WRITING, CHOOSING, NEEDS };
+static const char *const word[NEEDS] = { "--plan", "--in", "--ask", "--read", "--write", "--choose" };
+
+/* The needs of one job; its plan is read and chosen. */
+static void measure(struct call *call, size_t needs[NEEDS])
+{
+    needs[ASKING] = most(needs[ASKING], need(asked, call));
+    needs[PLANNING_IN] = most(needs[PLANNING_IN], need(planned_in, call));
+    needs[PLANNING] = most(needs[PLANNING], need(planned, call));
+    if (call->answer > 0) {
+        size_t length = (size_t)call->answer;
+        needs[READING] = most(needs[READING], reading(call, length, true, 0));
+        needs[CHOOSING] = most(needs[CHOOSING], choosing(call, length, true));
+        needs[CHOOSING] = most(needs[CHOOSING], choosing(call, longest_book(call->book), false));
+    }
+    memcpy(call->book, call->job, call->length);
+    needs[READING] = most(needs[READING], reading(call, call->length, false, 0));
+}
+
 int main(int argc, char **argv)
 {
     static struct call call;
-    size_t to_plan = 0, to_read = 0, to_write = 0, to_choose = 0;
-    bool read_only = argc > 1 && strcmp(argv[1], "--read") == 0, write_only = argc > 1 && strcmp(argv[1], "--write") == 0;
-    bool choose_only = argc > 1 && strcmp(argv[1], "--choose") == 0;
+    size_t needs[NEEDS] = { 0 }, bytes = 0, alone = 0;
     static const size_t runs[] = { 0, 1, TRENCH_MOST_RUNS, TRENCH_MOST_RUNS + 1 };
     for (size_t i = 0; i < sizeof runs / sizeof *runs; i++)
-        to_write = most(to_write, writing(&call, runs[i]));
-    for (int i = read_only || write_only || choose_only ? 2 : 1; i < argc; i++) {
+        needs[WRITING] = most(needs[WRITING], writing(&call, runs[i]));
+    while (alone < NEEDS && (argc < 2 || strcmp(argv[1], word[alone]) != 0))
+        alone++;
+    for (int i = alone < NEEDS ? 2 : 1; i < argc; i++) {
         FILE *file = fopen(argv[i], "rb");
         if (!file)
             return 2;
         call.length = fread(call.job, 1, sizeof call.job, file);
         fclose(file);
-        to_write = most(to_write, need(placed, &call));
-        to_plan = most(to_plan, need(planned, &call));
-        if (call.answer > 0) {
-            size_t length = (size_t)call.answer;
-            to_read = most(to_read, reading(&call, length, true, 0));
-            to_choose = most(to_choose, choosing(&call, length, true));
-            to_choose = most(to_choose, choosing(&call, longest_book(call.book), false));
-        }
-        memcpy(call.book, call.job, call.length);
-        to_read = most(to_read, reading(&call, call.length, false, 0));
+        measure(&call, needs);
     }
-    to_read = most(to_read, reading(&call, longest_book(call.book), true, TRENCH_MOST_RUNS * TRENCH_MOST_CORNERS));
-    size_t all = most(most(to_plan, to_read), most(to_write, to_choose));
-    size_t bytes = read_only ? to_read : write_only ? to_write : choose_only ? to_choose : all;
+    size_t longest = reading(&call, longest_book(call.book), true, TRENCH_MOST_RUNS * TRENCH_MOST_CORNERS);
+    needs[READING] = most(needs[READING], longest);
+    for (size_t i = 0; i < NEEDS; i++)
+        bytes = alone == NEEDS || alone == i ? most(bytes, needs[i]) : bytes;
     printf("%zu\n", bytes);
     return bytes <= TRENCH_STACK ? 0 : 1;
 }

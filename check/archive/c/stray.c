@@ -1,44 +1,48 @@
-/* Functions with the interfaces of trench_plan, trench_job, trench_job_place, trench_corner, trench_choose and trench_choose_place that
- * do what those must not: the tests see that each is noticed. The planners answer -4. */
+/* Functions with the interfaces of trench_plan, trench_plan_in, trench_words, trench_job, trench_job_place, trench_corner, trench_choose
+ * and trench_choose_place that do what those must not: the tests see that each is noticed. */
 #include <stddef.h>
 #include <stdint.h>
 
-typedef int32_t planner(const uint8_t *job, size_t job_len, uint8_t *out, size_t out_len);
-planner stray_write_before, stray_write_behind, stray_write_job, stray_read_before, stray_read_behind;
+/* Does the deed of number job_len to what is before or behind the job, or to the job, which it may only read. Answers -4. */
+int32_t stray_ask(const uint8_t *job, size_t job_len);
 
-int32_t stray_write_before(const uint8_t *job, size_t job_len, uint8_t *out, size_t out_len)
+int32_t stray_ask(const uint8_t *job, size_t job_len)
 {
-    (void)job, (void)job_len, (void)out_len;
-    *(volatile uint8_t *)(out - 1) ^= 1;
+    switch (job_len) {
+    case 1: *(volatile uint8_t *)(uintptr_t)job ^= 1; break;
+    case 2: (void)*(const volatile uint8_t *)(job - 1); break;
+    case 3: (void)*(const volatile uint8_t *)(job + job_len); break;
+    default: break;
+    }
     return -4;
 }
 
-int32_t stray_write_behind(const uint8_t *job, size_t job_len, uint8_t *out, size_t out_len)
+/* The same, and to what is before or behind the plan buffer. */
+int32_t stray_plan(const uint8_t *job, size_t job_len, uint8_t *out, size_t out_len);
+
+int32_t stray_plan(const uint8_t *job, size_t job_len, uint8_t *out, size_t out_len)
 {
-    (void)job, (void)job_len;
-    *(volatile uint8_t *)(out + out_len) ^= 1;
-    return -4;
+    switch (job_len) {
+    case 4: *(volatile uint8_t *)(out - 1) ^= 1; break;
+    case 5: *(volatile uint8_t *)(out + out_len) ^= 1; break;
+    default: break;
+    }
+    return stray_ask(job, job_len);
 }
 
-int32_t stray_write_job(const uint8_t *job, size_t job_len, uint8_t *out, size_t out_len)
-{
-    (void)job_len, (void)out, (void)out_len;
-    *(volatile uint8_t *)(uintptr_t)job ^= 1;
-    return -4;
-}
+/* The same, and to what is before or behind the work words. */
+int32_t stray_plan_in(const uint8_t *job, size_t job_len, uint32_t *work, size_t work_len, uint8_t *out, size_t out_len);
 
-int32_t stray_read_before(const uint8_t *job, size_t job_len, uint8_t *out, size_t out_len)
+int32_t stray_plan_in(const uint8_t *job, size_t job_len, uint32_t *work, size_t work_len, uint8_t *out, size_t out_len)
 {
-    (void)job_len, (void)out, (void)out_len;
-    (void)*(const volatile uint8_t *)(job - 1);
-    return -4;
-}
-
-int32_t stray_read_behind(const uint8_t *job, size_t job_len, uint8_t *out, size_t out_len)
-{
-    (void)out, (void)out_len;
-    (void)*(const volatile uint8_t *)(job + job_len);
-    return -4;
+    switch (job_len) {
+    case 6: *(volatile uint32_t *)(work - 1) ^= 1; break;
+    case 7: *(volatile uint32_t *)(work + work_len) ^= 1; break;
+    case 8: (void)*(const volatile uint32_t *)(work - 1); break;
+    case 9: (void)*(const volatile uint32_t *)(work + work_len); break;
+    default: break;
+    }
+    return stray_plan(job, job_len, out, out_len);
 }
 
 /* Does the deed of number i to what is before or behind its parts, or to a part that it may only read. Answers 0. */

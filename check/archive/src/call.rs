@@ -6,26 +6,55 @@
 use std::ffi::c_void;
 
 use trench_check::choose::Chooser;
-use trench_check::compare::{Called, Caller};
+use trench_check::compare::{Asked, Called, Caller};
 use trench_check::read_back::{Answered, Asker, Question};
 use trench_check::write_job::Writer;
 
 type Plan = unsafe extern "C" fn(*const u8, usize, *mut u8, usize) -> i32;
+type PlanIn = unsafe extern "C" fn(*const u8, usize, *mut u32, usize, *mut u8, usize) -> i32;
 
 unsafe extern "C" {
+    fn trench_words(job: *const u8, job_len: usize) -> i32;
+    fn trench_bytes(job: *const u8, job_len: usize) -> i32;
     fn trench_plan(job: *const u8, job_len: usize, out: *mut u8, out_len: usize) -> i32;
-    fn table_plan(job: *const u8, job_len: usize, out: *mut u8, out_len: usize) -> i32;
-    fn table_plan_clearing(job: *const u8, job_len: usize, out: *mut u8, out_len: usize) -> i32;
+    fn trench_plan_in(
+        job: *const u8,
+        job_len: usize,
+        work: *mut u32,
+        work_len: usize,
+        out: *mut u8,
+        out_len: usize,
+    ) -> i32;
+    fn trench_plan_place(job: *const u8, job_len: usize) -> usize;
+    fn table_plan_in(
+        job: *const u8,
+        job_len: usize,
+        work: *mut u32,
+        work_len: usize,
+        out: *mut u8,
+        out_len: usize,
+    ) -> i32;
     fn table_frame(job: *const u8, job_len: usize, group: u32, rounds: u32, out: *mut u8) -> usize;
     fn table_rounds(job: *const u8, job_len: usize, group: u32, rounds: u32, sum: *mut u32) -> u32;
-    fn tuned_plan_clearing(job: *const u8, job_len: usize, out: *mut u8, out_len: usize) -> i32;
+    fn tuned_plan_in(
+        job: *const u8,
+        job_len: usize,
+        work: *mut u32,
+        work_len: usize,
+        out: *mut u8,
+        out_len: usize,
+    ) -> i32;
     fn tuned_rounds(job: *const u8, job_len: usize, group: u32, rounds: u32, sum: *mut u32) -> u32;
-    fn stray_write_before(job: *const u8, job_len: usize, out: *mut u8, out_len: usize) -> i32;
-    fn stray_write_behind(job: *const u8, job_len: usize, out: *mut u8, out_len: usize) -> i32;
-    fn stray_write_job(job: *const u8, job_len: usize, out: *mut u8, out_len: usize) -> i32;
-    fn stray_read_before(job: *const u8, job_len: usize, out: *mut u8, out_len: usize) -> i32;
-    fn stray_read_behind(job: *const u8, job_len: usize, out: *mut u8, out_len: usize) -> i32;
-    fn trench_plan_place(job: *const u8, job_len: usize, out_len: usize) -> usize;
+    fn stray_plan(job: *const u8, job_len: usize, out: *mut u8, out_len: usize) -> i32;
+    fn stray_plan_in(
+        job: *const u8,
+        job_len: usize,
+        work: *mut u32,
+        work_len: usize,
+        out: *mut u8,
+        out_len: usize,
+    ) -> i32;
+    fn stray_ask(job: *const u8, job_len: usize) -> i32;
     fn trench_job(number: u32, runs: *const i32, runs_len: usize, out: *mut u8, out_len: usize) -> i32;
     fn trench_job_place(number: u32, runs: *const i32, runs_len: usize, out: *const u8, out_len: usize) -> usize;
     fn stray_job(number: u32, runs: *const i32, runs_len: usize, out: *mut u8, out_len: usize) -> i32;
@@ -101,62 +130,69 @@ unsafe extern "C" {
     fn getrusage(who: i32, usage: *mut [i64; USAGE]) -> i32;
 }
 
-/// A C function with the interface of `trench_plan`.
+/// A planner in C that is lent its work words.
 #[derive(Clone, Copy, Debug, PartialEq, Eq)]
-pub enum Function {
-    /// `trench_plan` of the archive.
+pub enum Planner {
+    /// The archive's, `trench_plan_in`. It has `trench_plan` beside it, and what is asked of a job alone.
     Archive,
     /// The plain C planner of `bench/`.
     Table,
-    /// The plain C planner that clears its work words.
-    TableClearing,
-    /// The tuned C planner that clears its work words.
-    TunedClearing,
-    /// Changes the byte before the plan buffer.
-    StrayWriteBefore,
-    /// Changes the byte behind the plan buffer.
-    StrayWriteBehind,
-    /// Changes the first byte of the job.
-    StrayWriteJob,
-    /// Reads the byte before the job.
-    StrayReadBefore,
-    /// Reads the byte behind the job.
-    StrayReadBehind,
+    /// The tuned C planner.
+    Tuned,
+    /// `stray_plan_in`, `stray_plan` and `stray_ask`, which do what those of the archive must not.
+    Stray,
 }
 
-impl Function {
-    fn pointer(self) -> Plan {
+impl Planner {
+    fn pointer(self) -> PlanIn {
         match self {
-            Function::Archive => trench_plan,
-            Function::Table => table_plan,
-            Function::TableClearing => table_plan_clearing,
-            Function::TunedClearing => tuned_plan_clearing,
-            Function::StrayWriteBefore => stray_write_before,
-            Function::StrayWriteBehind => stray_write_behind,
-            Function::StrayWriteJob => stray_write_job,
-            Function::StrayReadBefore => stray_read_before,
-            Function::StrayReadBehind => stray_read_behind,
+            Planner::Archive => trench_plan_in,
+            Planner::Table => table_plan_in,
+            Planner::Tuned => tuned_plan_in,
+            Planner::Stray => stray_plan_in,
         }
     }
 
-    /// Whether a call touches nothing but what it is lent, so that it can be made from safe code.
-    fn keeps_to_its_memory(self) -> bool {
-        matches!(self, Function::Archive | Function::Table | Function::TableClearing | Function::TunedClearing)
+    /// The planner with words of its own, if there is one.
+    fn own(self) -> Option<Plan> {
+        match self {
+            Planner::Archive => Some(trench_plan),
+            Planner::Table | Planner::Tuned => None,
+            Planner::Stray => Some(stray_plan),
+        }
     }
 }
 
-/// Plans a job: the plan's length, or minus the refusal number.
-pub fn plan(function: Function, job: &[u8], out: &mut [u8]) -> i32 {
-    assert!(function.keeps_to_its_memory());
-    // SAFETY: the function reads `job.len()` bytes of job and reads and writes `out.len()` bytes of out; both slices are
-    // alive and do not overlap, since one of them is borrowed mutably.
-    unsafe { function.pointer()(job.as_ptr(), job.len(), out.as_mut_ptr(), out.len()) }
+/// Plans a job in lent words: the plan's length, or minus the refusal number.
+pub fn plan_in(planner: Planner, job: &[u8], work: &mut [u32], out: &mut [u8]) -> i32 {
+    assert!(planner != Planner::Stray, "a call from safe code touches nothing but what it is lent");
+    let (work_len, out_len) = (work.len(), out.len());
+    // SAFETY: the function reads `job.len()` bytes of job and reads and writes the words of work and the bytes of out; the slices
+    // are alive and do not overlap, since those that are written are borrowed mutably.
+    unsafe { planner.pointer()(job.as_ptr(), job.len(), work.as_mut_ptr(), work_len, out.as_mut_ptr(), out_len) }
 }
 
-/// The archive's place of the refusal of a job, with a plan buffer of this length.
-pub fn plan_place(job: &[u8], out_len: usize) -> usize {
+/// Has the archive plan a job in its own words: the plan's length, or minus the refusal number.
+pub fn plan(job: &[u8], out: &mut [u8]) -> i32 {
+    // SAFETY: the function reads `job.len()` bytes of job and reads and writes `out.len()` bytes of out; both slices are
+    // alive and do not overlap, since one of them is borrowed mutably.
+    unsafe { trench_plan(job.as_ptr(), job.len(), out.as_mut_ptr(), out.len()) }
+}
+
+/// The archive's plan of a job, in a buffer of just the bytes that it forecasts; or minus the refusal number.
+pub fn planned(job: &[u8]) -> Result<Vec<u8>, i32> {
+    let length = |answer: i32| usize::try_from(answer).map_err(|_| answer);
     // SAFETY: the function reads `job.len()` bytes of job, which is alive.
-    unsafe { trench_plan_place(job.as_ptr(), job.len(), out_len) }
+    let mut out = vec![0; length(unsafe { trench_bytes(job.as_ptr(), job.len()) })?];
+    let plan = length(plan(job, &mut out))?;
+    out.truncate(plan);
+    Ok(out)
+}
+
+/// The archive's place of the refusal of a job.
+pub fn plan_place(job: &[u8]) -> usize {
+    // SAFETY: the function reads `job.len()` bytes of job, which is alive.
+    unsafe { trench_plan_place(job.as_ptr(), job.len()) }
 }
 
 /// Has the archive write a job book from a list: the book's length, or minus the refusal number.
@@ -235,8 +271,10 @@ const READ_AND_WRITE: i32 = 3;
 const PRIVATE_AND_ANONYMOUS: i32 = 0x22;
 /// What stands in the part of a room that is not lent.
 const CANARY: u8 = 0xA5;
-/// The most pages of a room.
-const MOST_PAGES: usize = 11;
+/// The pages of a room for a plan book: the longest takes ten of them.
+const BOOK_PAGES: usize = 11;
+/// The most pages of a room, which is one for work words: the most that any job needs take all but one of them.
+const MOST_PAGES: usize = 17;
 /// A room full of it, which is quickly compared.
 static CANARIES: [u8; MOST_PAGES * PAGE] = [CANARY; MOST_PAGES * PAGE];
 
@@ -272,25 +310,31 @@ impl Room {
         unsafe { std::slice::from_raw_parts_mut(self.base, self.size) }
     }
 
+    /// Fills the room with canaries, and gives the offset of so many bytes against one of the inaccessible pages.
+    fn clear(&mut self, length: usize, against: Against) -> usize {
+        self.bytes().fill(CANARY);
+        if against == Against::Back { self.size - length } else { 0 }
+    }
+
     /// Puts bytes against one of the inaccessible pages, canaries elsewhere, and gives the offset of the bytes.
     fn lend(&mut self, bytes: &[u8], against: Against) -> usize {
-        let start = if against == Against::Back { self.size - bytes.len() } else { 0 };
-        let room = self.bytes();
-        room.fill(CANARY);
-        room[start..start + bytes.len()].copy_from_slice(bytes);
+        let start = self.clear(bytes.len(), against);
+        self.bytes()[start..start + bytes.len()].copy_from_slice(bytes);
         start
     }
 
     /// The same for words.
     fn lend_words(&mut self, words: &[u32], against: Against) -> usize {
-        let bytes: Vec<u8> = words.iter().flat_map(|word| word.to_ne_bytes()).collect();
-        self.lend(&bytes, against)
+        let start = self.clear(4 * words.len(), against);
+        self.words(start, words.len()).copy_from_slice(words);
+        start
     }
 
     /// So many words of the lent part.
-    fn words(&mut self, start: usize, count: usize) -> Vec<u32> {
-        let words = self.bytes()[start..start + 4 * count].chunks_exact(4);
-        words.map(|word| u32::from_ne_bytes(word.try_into().expect("4 bytes"))).collect()
+    fn words(&mut self, start: usize, count: usize) -> &mut [u32] {
+        assert!(start % 4 == 0 && start + 4 * count <= self.size, "words of the room");
+        // SAFETY: the words are in the room, which owns them, and are aligned, since a page is and `start` is whole words.
+        unsafe { std::slice::from_raw_parts_mut(self.base.add(start).cast(), count) }
     }
 
     /// The number of canaries around the lent part that were changed.
@@ -326,27 +370,35 @@ impl Against {
     }
 }
 
-/// Calls a function with job and plan buffer each against an inaccessible page, by turns the one behind and the one before.
-/// The rest of their pages holds canaries. The archive's tells places too, and has a writer and a chooser beside it.
+/// Calls a planner with job, work words and plan buffer each against an inaccessible page, by turns the one behind and the one before.
+/// The rest of their pages holds canaries. The archive's is asked about jobs alone too, and has a writer and a chooser beside it.
 pub struct Guarded {
-    function: Function,
+    planner: Planner,
     job: Room,
+    work: Room,
     out: Room,
-    next: Against,
-    next_place: Against,
+    /// Against which page the next call is made: in lent words, in words of its own, and with a job alone.
+    next: [Against; 3],
     writer: Option<GuardedWriter>,
     chooser: Option<GuardedChooser>,
 }
 
 impl Guarded {
-    /// A caller of this function; job books of at most 4,096 bytes, plan buffers of at most 45,056. The first call, and the first
-    /// question for a place, is made against these pages.
-    pub fn new(function: Function, first: Against) -> Guarded {
-        let is_archive = function == Function::Archive;
+    /// A caller of this planner; job books of at most 4,096 bytes, at most 17,408 words, plan buffers of at most 45,056 bytes. The
+    /// first call of each kind is made against these pages.
+    pub fn new(planner: Planner, first: Against) -> Guarded {
+        let is_archive = planner == Planner::Archive;
         let writer = is_archive.then(|| GuardedWriter::new(JobWriter::Archive, first));
         let chooser = is_archive.then(|| GuardedChooser::new(BookChooser::Archive, first));
-        let (job, out) = (Room::new(1), Room::new(MOST_PAGES));
-        Guarded { function, job, out, next: first, next_place: first, writer, chooser }
+        let (job, work, out) = (Room::new(1), Room::new(MOST_PAGES), Room::new(BOOK_PAGES));
+        Guarded { planner, job, work, out, next: [first; 3], writer, chooser }
+    }
+
+    /// Against which page this kind of call is made now; the next one against the other.
+    fn turn(&mut self, kind: usize) -> Against {
+        let against = self.next[kind];
+        self.next[kind] = against.other();
+        against
     }
 
     /// What became of a lent job, and of the bytes around it.
@@ -356,6 +408,12 @@ impl Guarded {
         }
         around(self.job.changed_around(job_at, job.len()))
     }
+
+    /// Takes the plan buffer back as it then is, and says in words what was changed besides.
+    fn give_back(&mut self, (job_at, out_at): (usize, usize), job: &[u8], out: &mut [u8]) -> Option<String> {
+        out.copy_from_slice(&self.out.bytes()[out_at..out_at + out.len()]);
+        around(self.out.changed_around(out_at, out.len())).or(self.strayed(job_at, job))
+    }
 }
 
 /// Says in words how many bytes were changed outside the lent ones, if any were.
@@ -364,29 +422,47 @@ fn around(changed: usize) -> Option<String> {
 }
 
 impl Caller for Guarded {
-    fn call(&mut self, job: &[u8], out: &mut [u8]) -> Called {
-        let job_at = self.job.lend(job, self.next);
-        let out_at = self.out.lend(out, self.next);
-        self.next = self.next.other();
-        // SAFETY: both parts lie in rooms that live and do not overlap. A function that strays beyond its parts hits
-        // canaries, or a page that it may not touch; then the process ends.
+    fn plan_in(&mut self, job: &[u8], work: &mut [u32], out: &mut [u8]) -> Option<Called> {
+        let against = self.turn(0);
+        let at = (self.job.lend(job, against), self.out.lend(out, against));
+        let work_at = self.work.lend_words(work, against);
+        // SAFETY: the three parts lie in rooms that live and do not overlap; the words are aligned, since a page is and they fill
+        // whole words at an end of one. A function that strays beyond its parts hits canaries, or a page that it may not touch;
+        // then the process ends.
         let answer = unsafe {
-            self.function.pointer()(self.job.base.add(job_at), job.len(), self.out.base.add(out_at), out.len())
+            let (job_at, words) = (self.job.base.add(at.0), self.work.base.add(work_at).cast());
+            self.planner.pointer()(job_at, job.len(), words, work.len(), self.out.base.add(at.1), out.len())
         };
-        let strayed = around(self.out.changed_around(out_at, out.len())).or(self.strayed(job_at, job));
-        out.copy_from_slice(&self.out.bytes()[out_at..out_at + out.len()]);
-        Called { answer, strayed }
+        let strayed = around(self.work.changed_around(work_at, 4 * work.len()));
+        work.copy_from_slice(self.work.words(work_at, work.len()));
+        Some(Called { answer, strayed: strayed.or(self.give_back(at, job, out)) })
     }
 
-    fn place(&mut self, job: &[u8], out_len: usize) -> Option<Answered> {
-        if self.function != Function::Archive {
+    fn plan(&mut self, job: &[u8], out: &mut [u8]) -> Option<Called> {
+        let function = self.planner.own()?;
+        let against = self.turn(1);
+        let at = (self.job.lend(job, against), self.out.lend(out, against));
+        // SAFETY: as above, with two parts.
+        let answer = unsafe { function(self.job.base.add(at.0), job.len(), self.out.base.add(at.1), out.len()) };
+        Some(Called { answer, strayed: self.give_back(at, job, out) })
+    }
+
+    fn ask(&mut self, asked: Asked, job: &[u8]) -> Option<Answered> {
+        if !matches!(self.planner, Planner::Archive | Planner::Stray) {
             return None;
         }
-        let job_at = self.job.lend(job, self.next_place);
-        self.next_place = self.next_place.other();
-        // SAFETY: the job lies in a room that lives. A function that strays beyond it hits canaries, or a page that it may not
-        // touch; then the process ends.
-        let answer = unsafe { trench_plan_place(self.job.base.add(job_at), job.len(), out_len) } as i64;
+        let against = self.turn(2);
+        let job_at = self.job.lend(job, against);
+        // SAFETY: as above, with the job alone.
+        let answer = unsafe {
+            let bytes = self.job.base.cast_const().add(job_at);
+            match asked {
+                _ if self.planner == Planner::Stray => stray_ask(bytes, job.len()).into(),
+                Asked::Words => trench_words(bytes, job.len()).into(),
+                Asked::Bytes => trench_bytes(bytes, job.len()).into(),
+                Asked::Place => trench_plan_place(bytes, job.len()) as i64,
+            }
+        };
         Some(Answered { answer, strayed: self.strayed(job_at, job) })
     }
 
@@ -501,7 +577,7 @@ impl GuardedReader {
     /// A caller of these functions; plan books of at most 45,056 bytes, at most 1,024 places and words. Each kind of memory is
     /// first lent against these pages.
     pub fn new(reader: Reader, first: Against) -> GuardedReader {
-        let (book, places, words) = (Room::new(MOST_PAGES), Room::new(1), Room::new(1));
+        let (book, places, words) = (Room::new(BOOK_PAGES), Room::new(1), Room::new(1));
         GuardedReader { reader, book, places, words, lent: Vec::new(), book_at: 0, next_book: first, next: first }
     }
 
@@ -552,7 +628,7 @@ impl Asker for GuardedReader {
             true => around(changed),
             false => Some("the places were changed".to_string()),
         };
-        words.copy_from_slice(&self.words.words(words_at, words.len()));
+        words.copy_from_slice(self.words.words(words_at, words.len()));
         Answered { answer, strayed }
     }
 
@@ -592,7 +668,7 @@ impl GuardedChooser {
     /// A caller of these functions; job books of at most 4,096 bytes, plan books of at most 45,056. The first call of each is made
     /// against these pages.
     pub fn new(functions: BookChooser, first: Against) -> GuardedChooser {
-        let rooms = [Room::new(1), Room::new(MOST_PAGES), Room::new(MOST_PAGES)];
+        let rooms = [Room::new(1), Room::new(BOOK_PAGES), Room::new(BOOK_PAGES)];
         GuardedChooser { functions, rooms, next: first, next_place: first }
     }
 

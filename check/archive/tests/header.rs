@@ -8,8 +8,8 @@ use std::path::{Path, PathBuf};
 
 use common::{compile, has, root, run, text};
 
-/// Plans a job of one run, a blank one and a refused one, writes jobs from lists, reads plans, and chooses between plans, with every
-/// name of the header in use.
+/// Forecasts and plans a job of one run, a blank one and a refused one, writes jobs from lists, reads plans, and chooses between plans,
+/// with every name of the header in use.
 const PROGRAM: &str = r#"
 #include "trench.h"
 #include "trench.h"
@@ -19,11 +19,15 @@ static const uint8_t job[] = { 0x48, 7, 0, 0, 0,
     0x52, 1, 0, 0, 0, 0, 0, 0, 0, 0, 0, 3, 0, 0, 0, 4, 0, 0, 0,
     0x5A, 1, 0 };
 static const uint8_t blank[] = { 0x48, 7, 0, 0, 0, 0x5A, 0, 0 };
-static uint8_t out[TRENCH_PLAN_ROOM];
+static uint8_t out[TRENCH_LONGEST_PLAN];
+static uint32_t work[TRENCH_MOST_WORDS];
 
 /* The types that callers rely on. */
+static int32_t (*const words_for)(const uint8_t *, size_t) = trench_words;
+static int32_t (*const bytes_for)(const uint8_t *, size_t) = trench_bytes;
 static int32_t (*const plan)(const uint8_t *, size_t, uint8_t *, size_t) = trench_plan;
-static size_t (*const plan_place)(const uint8_t *, size_t, size_t) = trench_plan_place;
+static int32_t (*const plan_in)(const uint8_t *, size_t, uint32_t *, size_t, uint8_t *, size_t) = trench_plan_in;
+static size_t (*const plan_place)(const uint8_t *, size_t) = trench_plan_place;
 static int32_t (*const write_job)(uint32_t, const int32_t *, size_t, uint8_t *, size_t) = trench_job;
 static size_t (*const job_place)(uint32_t, const int32_t *, size_t, const uint8_t *, size_t) = trench_job_place;
 static int32_t (*const read_plan)(const uint8_t *, size_t) = trench_read;
@@ -213,21 +217,58 @@ static int ask_places(void)
 {
     uint8_t wrong[sizeof job + 1] = { 0 };
     memcpy(wrong, job, sizeof job);
-    if (plan_place(job, sizeof job, sizeof out) != 0 || plan_place(job, sizeof job - 1, sizeof out - 1) != 0)
+    if (plan_place(job, sizeof job) != 0 || plan_place(blank, sizeof blank) != 0)
         return 60;
-    if (plan_place(job, sizeof job - 1, sizeof out) != 24 || plan_place(job, 24, sizeof out) != 24)
+    if (plan_place(job, sizeof job - 1) != 24 || plan_place(job, 24) != 24)
         return 61;
-    if (plan_place(wrong, sizeof wrong, sizeof out) != sizeof job)
+    if (plan_place(wrong, sizeof wrong) != sizeof job)
         return 62;
     wrong[6] = 0;
-    if (plan_place(wrong, sizeof wrong, sizeof out) != 5)
+    if (plan_place(wrong, sizeof wrong) != 5)
         return 63;
     memcpy(wrong, job, sizeof job);
     memset(wrong + 16, 0, 8); /* the run goes from 0,0 to 0,0 */
-    if (plan(wrong, sizeof job, out, sizeof out) != -TRENCH_COINCIDENT || plan_place(wrong, sizeof job, sizeof out) != 5)
+    if (plan(wrong, sizeof job, out, sizeof out) != -TRENCH_COINCIDENT || plan_place(wrong, sizeof job) != 5)
         return 64;
     wrong[20] = 1; /* and now to 0,1 */
     return plan(wrong, sizeof job, out, sizeof out) == 22 + 9 + 2 * 9 ? 0 : 65;
+}
+
+/* Whether the job of one run, lent so many words and bytes, gets this answer, and all that is left is as it should be. */
+static int lent(size_t words, size_t bytes, int32_t answer)
+{
+    size_t cleared = answer < 0 ? 0 : 16, written = answer < 0 ? 0 : (size_t)answer;
+    memset(work, 0x77, sizeof work), memset(out, 0x77, sizeof out);
+    if (plan_in(job, sizeof job, work, words, out, bytes) != answer)
+        return 0;
+    for (size_t i = 0; i < TRENCH_MOST_WORDS; i++)
+        if (work[i] != (i < cleared ? 0 : 0x77777777))
+            return 0;
+    return out[written] == 0x77 && (answer < 0 || out[0] == 0x51);
+}
+
+/* Forecasts, and plans in lent words; 0, or where it went wrong. */
+static int forecast(void)
+{
+    if (words_for(job, sizeof job) != 16 || bytes_for(job, sizeof job) != 22 + 9 + 3 * 9)
+        return 100;
+    if (words_for(blank, sizeof blank) != 0 || bytes_for(blank, sizeof blank) != 22)
+        return 101;
+    if (words_for(job, 26) != -TRENCH_CUT || bytes_for(job, 26) != -TRENCH_CUT)
+        return 102;
+    if (!lent(16, 58, 58) || !lent(TRENCH_MOST_WORDS, TRENCH_LONGEST_PLAN, 58))
+        return 103;
+    if (!lent(15, 58, -TRENCH_SHORT_WORK) || !lent(15, 57, -TRENCH_SHORT_WORK) || !lent(0, 0, -TRENCH_SHORT_WORK))
+        return 104;
+    if (!lent(16, 57, -TRENCH_SHORT_BUFFER) || !lent(17, 0, -TRENCH_SHORT_BUFFER))
+        return 105;
+    if (plan_in(job, sizeof job - 1, work, 0, out, 0) != -TRENCH_CUT)
+        return 106;
+    if (plan(job, sizeof job, out, 57) != -TRENCH_SHORT_BUFFER || plan(job, sizeof job, out, 58) != 58)
+        return 107;
+    if (plan_in(blank, sizeof blank, work, 0, out, 22) != 22 || plan_in(blank, sizeof blank, work, 0, out, 21) != -2)
+        return 108;
+    return TRENCH_MOST_WORDS == 16384 ? 0 : 109;
 }
 
 int main(void)
@@ -237,8 +278,6 @@ int main(void)
         return 1;
     if (out[0] != 0x51 || out[7] != 7 || TRENCH_LONGEST_PLAN != 36886)
         return 2;
-    if (trench_plan(job, sizeof job, out, sizeof out - 1) != -TRENCH_SHORT_BUFFER)
-        return 3;
     if (trench_plan(job, sizeof job - 1, out, sizeof out) != -TRENCH_CUT)
         return 4;
     static const int numbers[] = { TRENCH_SHORT_WORK, TRENCH_SHORT_BUFFER, TRENCH_CUT, TRENCH_UNKNOWN_KIND, TRENCH_OUT_OF_PLACE,
@@ -261,6 +300,8 @@ int main(void)
         wrong = read_older();
     if (wrong == 0)
         wrong = choose_books();
+    if (wrong == 0)
+        wrong = forecast();
     return wrong ? wrong : read_back();
 }
 "#;
@@ -301,5 +342,5 @@ fn every_function_of_the_archive_is_declared() {
     let listed = run(Path::new("nm"), &["--extern-only", "--defined-only", env!("TRENCH_ARCHIVE_COPY")], &[]);
     let listed = text(&listed.stdout);
     assert_eq!(names(listed.lines().filter(|line| line.contains(" T "))), declared);
-    assert_eq!(declared.len(), 12);
+    assert_eq!(declared.len(), 15);
 }

@@ -15,7 +15,7 @@ use trench_check::listing;
 use trench_check::pits;
 use trench_check::plan_book::{Kinds, PlanBook, RouteRecord};
 use trench_check::read_back::{Asker, FIGURES, PLACES, Question, ROUTE_WORDS, listed};
-use trench_check::refusal::{self, PLAN_ROOM, Refusal, verdict, words};
+use trench_check::refusal::{self, Refusal, verdict, words};
 use trench_check::text::{parse, why_no_star};
 use trench_check::write_job::Writer;
 
@@ -63,7 +63,7 @@ fn the_sample_that_goes_nowhere() {
     let book = std::fs::read(path.with_extension("job")).expect("its job book");
     let run = Run { number: 1, first: Point::new(5, 5), second: Point::new(5, 5) };
     assert_eq!(book, job_bytes(&Job { number: 1, runs: vec![run] }));
-    assert_eq!((planned(&book), plan_place(&book, PLAN_ROOM)), (Err(-17), 5));
+    assert_eq!((planned(&book), plan_place(&book)), (Err(-17), 5));
 }
 
 /// Each job book that is well formed is what the archive writes for its number and runs; there are such that are no star.
@@ -93,7 +93,7 @@ fn stored_listings_are_right() {
             Err(refusal) => {
                 assert_eq!(stored, listing::of_refusal(refusal), "{}", path.display());
                 assert_eq!(planned(&job), Err(-refusal.number), "{}", path.display());
-                assert_eq!(plan_place(&job, PLAN_ROOM), refusal.place, "{}", path.display());
+                assert_eq!(plan_place(&job), refusal.place, "{}", path.display());
             }
             Ok(_) => {
                 let book = listing::read_plan(&stored).unwrap_or_else(|fault| panic!("{}: {fault}", path.display()));
@@ -238,7 +238,7 @@ fn older_plans_are_read() {
         match (verdict(&job), book.kinds) {
             (Err(Refusal { number: 17, place }), kinds) => {
                 nowhere[usize::from(kinds == Kinds::Newer)] += 1;
-                assert_eq!((less, planned(&job), plan_place(&job, PLAN_ROOM)), (1, Err(-17), place));
+                assert_eq!((less, planned(&job), plan_place(&job)), (1, Err(-17), place));
             }
             (Ok(_), Kinds::Older) => {
                 assert_eq!((less, first_fault.as_deref()), (0, Some("the plan has the older kinds")));

@@ -1,7 +1,7 @@
 // Figures of a whole job: the sum of its runs' distances, and of each run the meets figure and the number of its group's centre.
 ghost use mathlib.Core.Path.{_≡_};
 ghost use Prim.Native.Nat.{ℕ, _≤_, _<_, max};
-ghost use lib.ListN.{getD};
+ghost use lib.ListN.{getD, replicate};
 ghost use Rattle.network.specs.Lists.{sum};
 ghost use Rattle.network.specs.Plane.{gap, distance, _to_};
 ghost use Rattle.network.specs.Graph.{below, degree};
@@ -45,31 +45,27 @@ pub fn total_distance(
     total
 }
 
-// The meets figures of the first n runs.
-pub fn meets_figures(neighbours: &[u32; 32], n: usize) -> [u32; 32]
-    requires { ⌜ n ≤ 32 ⌝ }
-    ensures { λ r. ⌜ r ≡ padded 32 (table (λ i. degree (joinedIn (now (neighbours .entry))) (below 32) i) n) ⌝ }
+// Puts the meets figures of the first n runs among zeros.
+pub fn tell_meets(neighbours: &[u32; 32], n: usize, told: &mut [u32; 32])
+    requires { ⌜ (n ≤ 32) × (now told ≡ replicate 32 0) ⌝ }
+    ensures { λ _. ⌜ now (told .exit) ≡ padded 32 (table (λ i. degree (joinedIn (now (neighbours .entry))) (below 32) i) n) ⌝ }
 {
-    let mut figures = [0u32; 32];
     let mut i: usize = 0;
     while i < n {
-        figures[i] = intersection::meets_of(neighbours, i);
+        told[i] = intersection::meets_of(neighbours, i);
         i += 1;
     }
-    figures
 }
 
-// The run numbers of the centres of the first n runs.
-pub fn centre_numbers(numbers: &[u32; 32], centres: &[usize; 32], n: usize) -> [u32; 32]
-    requires { ⌜ (n ≤ 32) × ((i : ℕ) → i < n → getD (now centres) i 0 < 32) ⌝ }
-    ensures { λ r. ⌜ r ≡ padded 32 (table (λ i. getD (now (numbers .entry)) (getD (now (centres .entry)) i 0) 0) n) ⌝ }
+// Puts the run numbers of the centres of the first n runs among zeros.
+pub fn tell_centres(numbers: &[u32; 32], centres: &[usize; 32], n: usize, told: &mut [u32; 32])
+    requires { ⌜ (n ≤ 32) × ((i : ℕ) → i < n → getD (now centres) i 0 < 32) × (now told ≡ replicate 32 0) ⌝ }
+    ensures { λ _. ⌜ now (told .exit) ≡ padded 32 (table (λ i. getD (now (numbers .entry)) (getD (now (centres .entry)) i 0) 0) n) ⌝ }
 {
-    let mut figures = [0u32; 32];
     let mut i: usize = 0;
     while i < n {
         let centre = centres[i];
-        figures[i] = numbers[centre];
+        told[i] = numbers[centre];
         i += 1;
     }
-    figures
 }

@@ -1,7 +1,7 @@
 -- Lists that are made entry by entry, and the arrays that a loop fills with them from the front.
 use mathlib.Core.Path.{_≡_, refl, sym, ap, ap₂, _∙_}
 use mathlib.Core.Logic.{_⊎_, inl, inr}
-use mathlib.Core.List.{List, [], _∷_, _++_, append-nil}
+use mathlib.Core.List.{List, [], _∷_, _++_}
 use Prim.Native.Nat.{ℕ, zero, suc, _+_, _-_, _≤_, _<_}
 use native.Mathlib.Nat.{le-refl}
 use native.Mathlib.Numerals.{add-one}
@@ -55,9 +55,3 @@ table-more f k n v t h p q =
   where
     room : k - length (table f n) ≡ suc (k - suc n)
     room = omega (arith, length-table f n)
-
--- a table that fills its array
-pub table-full : (f : ℕ → ℕ) (k n : ℕ) → n ≡ k → padded k (table f n) ≡ table f k
-table-full f k n e =
-    let z : k - length (table f k) ≡ 0 = omega (arith, length-table f k) in
-    ap (λ (m : ℕ). padded k (table f m)) e ∙ ap (λ (m : ℕ). table f k ++ replicate m 0) z ∙ append-nil (table f k)

@@ -1,6 +1,7 @@
 // The columns and rows of a job, and the position of a coordinate in them.
 ghost use mathlib.Core.Path.{_≡_};
 ghost use Prim.Native.Nat.{pred, _≤_, min, max};
+ghost use lib.ListN.{replicate};
 ghost use Rattle.network.specs.Distinct.{insert, distinct};
 ghost use Rattle.grid.specs.Tables.{table, padded};
 ghost use Rattle.grid.specs.Lines.{values, axisOf, linesOf, Room, RisingTo, indexOf, lengthAt};
@@ -43,19 +44,29 @@ fn add_line(lines: &mut [u32; 64], count: usize, v: u32) -> usize
     count + 1
 }
 
-// The lines of the first n runs on one axis, of which the arrays hold the first and the second points' values.
+// Puts the lines of the first n runs on one axis, of which the arrays hold the first and the second points' values, among zeros, and says how many
+// they are.
+pub fn lay_lines(first: &[u32; 32], second: &[u32; 32], n: usize, lines: &mut [u32; 64]) -> usize
+    requires { ⌜ (n ≤ 32) × (now lines ≡ replicate 64 0) ⌝ }
+    ensures { λ r. ⌜ (record { lines = now (lines .exit); count = r } ≡ axisOf (distinct (values (now (first .entry)) (now (second .entry)) n))) × (r ≤ 64) ⌝ }
+{
+    let mut count: usize = 0;
+    let mut i: usize = 0;
+    while i < n {
+        count = add_line(lines, count, first[i]);
+        count = add_line(lines, count, second[i]);
+        i += 1;
+    }
+    count
+}
+
+// The same lines as an axis.
 pub fn axis_of(first: &[u32; 32], second: &[u32; 32], n: usize) -> Axis
     requires { ⌜ n ≤ 32 ⌝ }
     ensures { λ r. ⌜ (r ≡ axisOf (distinct (values (now (first .entry)) (now (second .entry)) n))) × (r .count ≤ 64) ⌝ }
 {
     let mut lines = [0u32; 64];
-    let mut count: usize = 0;
-    let mut i: usize = 0;
-    while i < n {
-        count = add_line(&mut lines, count, first[i]);
-        count = add_line(&mut lines, count, second[i]);
-        i += 1;
-    }
+    let count = lay_lines(first, second, n, &mut lines);
     Axis { lines, count }
 }
 
@@ -76,16 +87,24 @@ pub fn position(lines: &[u32; 64], count: usize, v: u32) -> u32
     k
 }
 
-// The lengths of the edges from each of the first count lines to the next.
-pub fn edge_lengths(lines: &[u32; 64], count: usize) -> [u32; 64]
-    requires { ⌜ (count ≤ 64) × RisingTo (now lines) count ⌝ }
-    ensures { λ r. ⌜ r ≡ padded 64 (table (lengthAt (now (lines .entry))) (pred count)) ⌝ }
+// Puts the lengths of the edges from each of the first count lines to the next among zeros.
+pub fn measure_edges(lines: &[u32; 64], count: usize, t: &mut [u32; 64])
+    requires { ⌜ (count ≤ 64) × RisingTo (now lines) count × (now t ≡ replicate 64 0) ⌝ }
+    ensures { λ _. ⌜ now (t .exit) ≡ padded 64 (table (lengthAt (now (lines .entry))) (pred count)) ⌝ }
 {
-    let mut t = [0u32; 64];
     let mut i: usize = 0;
     while i + 1 < count {
         t[i] = lines[i + 1] - lines[i];
         i += 1;
     }
+}
+
+// The same lengths by value.
+pub fn edge_lengths(lines: &[u32; 64], count: usize) -> [u32; 64]
+    requires { ⌜ (count ≤ 64) × RisingTo (now lines) count ⌝ }
+    ensures { λ r. ⌜ r ≡ padded 64 (table (lengthAt (now (lines .entry))) (pred count)) ⌝ }
+{
+    let mut t = [0u32; 64];
+    measure_edges(lines, count, &mut t);
     t
 }

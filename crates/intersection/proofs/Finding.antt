@@ -27,15 +27,15 @@ use Rattle.intersection.proofs.Lists.{every-cong, every-below}
 -- ---- one run
 
 -- the test of a run, by the set of the runs that meet one run at most
-pub local-is : (sets : List ℕ) (i lone : ℕ) → i < 32 → lone ≡ pack (isLone (joinedIn sets) 32) 32
+pub local-is : (sets : List ℕ) (n i lone : ℕ) → Graph (joinedIn sets) n → i < n → lone ≡ pack (isLone (joinedIn sets) 32) n
     → (has lone i || every (has lone) (members (getD sets i 0))) ≡ isLocal (joinedIn sets) 32 i
 unfolding isLocal members
-local-is sets i lone h e =
+local-is sets n i lone g h e =
     ap₂ _||_ (same i h) (every-cong (has lone) (isLone (joinedIn sets) 32) (select (joinedIn sets i) (below 32))
-    (λ j m. same j (below-member 32 j (selected-member (joinedIn sets i) (below 32) m .0))))
+    (λ j m. same j (g .within i j (selected-member (joinedIn sets i) (below 32) m .1))))
   where
-    same : (j : ℕ) → j < 32 → has lone j ≡ isLone (joinedIn sets) 32 j
-    same j k = ap (λ s. has s j) e ∙ has-pack (isLone (joinedIn sets) 32) 32 j k
+    same : (j : ℕ) → j < n → has lone j ≡ isLone (joinedIn sets) 32 j
+    same j k = ap (λ s. has s j) e ∙ has-pack (isLone (joinedIn sets) 32) n j k
 
 -- the lowest that a run meets is its first
 pub first-is : (sets : List ℕ) (i : ℕ) → getD (members (getD sets i 0)) 0 32 ≡ firstOf (joinedIn sets) 32 i

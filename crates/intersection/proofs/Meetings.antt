@@ -27,13 +27,12 @@ use Rattle.grid.specs.Runs.{runsHeld}
 use Rattle.grid.proofs.Tables.{table-same, length-padded, getD-padded, getD-behind, table-held}
 use Rattle.network.specs.Entries.{length-table, getD-table}
 use Rattle.grid.proofs.Hanan.{length-runs, run-at}
-use Rattle.intersection.specs.declared.Sides.{Sides}
 use Rattle.intersection.specs.declared.Box.{Box}
 use Rattle.intersection.specs.declared.Case.{Case}
 use Rattle.intersection.specs.Sets.{has, pack}
 use Rattle.intersection.specs.Cases.{boxOf, Common, Makes, meeting}
 use Rattle.intersection.specs.Centres.{meetsIn, neighbourSets}
-use Rattle.intersection.specs.Steps.{sidesOf, boxAt, seen, partSets, Tells, Compared}
+use Rattle.intersection.specs.Steps.{lowerSides, higherSides, boxAt, seen, partSets, Tells, Compared}
 use Rattle.intersection.proofs.Digits.{pack-none}
 use Rattle.intersection.proofs.Members.{pack-add, pack-skip}
 use Rattle.intersection.proofs.Cases.{meets-hanan}
@@ -188,21 +187,22 @@ module _ (box : ℕ → Box) (i j : ℕ) (later : j < i) (few : i < 32) (p q : B
 
 -- ---- the runs of a job
 
-module _ (x1 y1 x2 y2 : List ℕ) (n : ℕ) (few : n ≤ 32) (x y : Sides) (x-is : x ≡ sidesOf x1 x2) (y-is : y ≡ sidesOf y1 y2) where
+module _ (x1 y1 x2 y2 : List ℕ) (n : ℕ) (few : n ≤ 32) (left right low high : List ℕ) (left-is : left ≡ lowerSides x1 x2 n) (right-is : right ≡ higherSides x1 x2 n)
+    (low-is : low ≡ lowerSides y1 y2 n) (high-is : high ≡ higherSides y1 y2 n) where
   abbrev box : ℕ → Box
-  box = boxAt (x .lower) (x .higher) (y .lower) (y .higher)
+  box = boxAt left right low high
 
   abbrev runs : List Run
   runs = runsHeld x1 y1 x2 y2 n
 
   -- a side of a box, read from its array
-  side : (f : ℕ → ℕ) (i : ℕ) → i < n → getD (table f 32) i 0 ≡ f i
-  side f i h = getD-table f 32 i 0 (omega arith)
+  side : (f : ℕ → ℕ) (i : ℕ) → i < n → getD (padded 32 (table f n)) i 0 ≡ f i
+  side f i h = getD-padded 32 (table f n) i (omega (arith, length-table f n)) ∙ getD-table f n i 0 h
 
   -- the sides are those of the runs' boxes
   box-is : (i : ℕ) → i < n → box i ≡ boxOf (runAt runs i)
   box-is i h =
-      ap₂ (λ (a b : Sides). boxAt (a .lower) (a .higher) (b .lower) (b .higher) i) x-is y-is
+      (λ o. boxAt (left-is o) (right-is o) (low-is o) (high-is o) i)
       ∙ (λ o. record { left = side (lower x1 x2) i h o; right = side (higher x1 x2) i h o; low = side (lower y1 y2) i h o; high = side (higher y1 y2) i h o })
       ∙ sym (ap boxOf (run-at x1 y1 x2 y2 n i h))
     where

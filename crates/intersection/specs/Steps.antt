@@ -6,7 +6,6 @@ use Prim.Native.Nat.{ℕ, suc, _<_, min, max}
 use lib.Dec.{ltb}
 use lib.ListN.{getD}
 use Rattle.grid.specs.Tables.{table, padded}
-use Rattle.intersection.specs.declared.Sides.{Sides}
 use Rattle.intersection.specs.declared.Box.{Box}
 use Rattle.intersection.specs.declared.Case.{Case}
 use Rattle.intersection.specs.Sets.{pack}
@@ -15,13 +14,12 @@ use Rattle.intersection.specs.Centres.{neighbourSets}
 
 -- ---- boxes
 
--- the lower and the higher side of each run's box on one axis, from the values of the first points and of the second
-abbrev pub sidesOf : List ℕ → List ℕ → Sides
-sidesOf first second =
-    record {
-      lower = table (λ i. min (getD first i 0) (getD second i 0)) 32;
-      higher = table (λ i. max (getD first i 0) (getD second i 0)) 32;
-    }
+-- the lower and the higher side of the first n runs' boxes on one axis, from the values of the first points and of the second
+abbrev pub lowerSides : List ℕ → List ℕ → ℕ → List ℕ
+lowerSides first second n = padded 32 (table (λ i. min (getD first i 0) (getD second i 0)) n)
+
+abbrev pub higherSides : List ℕ → List ℕ → ℕ → List ℕ
+higherSides first second n = padded 32 (table (λ i. max (getD first i 0) (getD second i 0)) n)
 
 -- the box at index i of the four sides
 abbrev pub boxAt : List ℕ → List ℕ → List ℕ → List ℕ → ℕ → Box

@@ -5,7 +5,7 @@ ghost use mathlib.Core.Path.{_≡_};
 ghost use mathlib.Core.Bool.{cond};
 ghost use Prim.Native.Nat.{_+_, _≤_, _<_};
 ghost use lib.Dec.{eqb};
-ghost use lib.ListN.{length, getD};
+ghost use lib.ListN.{length, getD, replicate};
 ghost use Rattle.network.specs.Lists.{every};
 ghost use Rattle.network.specs.Graph.{below};
 ghost use Rattle.grid.specs.Tables.{table, padded};
@@ -32,13 +32,14 @@ fn with_lone(neighbours: &[u32; 32], i: usize, found: u32) -> u32
     found
 }
 
-// The runs that meet one run at most.
-fn lone_runs(neighbours: &[u32; 32]) -> u32
-    ensures { λ r. ⌜ r ≡ pack (isLone (joinedIn (now (neighbours .entry))) 32) 32 ⌝ }
+// The first n runs that meet one run at most.
+fn lone_runs(neighbours: &[u32; 32], n: usize) -> u32
+    requires { ⌜ n ≤ 32 ⌝ }
+    ensures { λ r. ⌜ r ≡ pack (isLone (joinedIn (now (neighbours .entry))) 32) n ⌝ }
 {
     let mut found: u32 = 0;
     let mut i: usize = 0;
-    while i < 32 {
+    while i < n {
         found = with_lone(neighbours, i, found);
         i += 1;
     }
@@ -46,8 +47,8 @@ fn lone_runs(neighbours: &[u32; 32]) -> u32
 }
 
 // Run i is such a run, or meets only such runs.
-fn is_local(neighbours: &[u32; 32], lone: u32, i: usize) -> bool
-    requires { ⌜ (i < 32) × (lone ≡ pack (isLone (joinedIn (now neighbours)) 32) 32) ⌝ }
+fn is_local(neighbours: &[u32; 32], n: usize, lone: u32, i: usize) -> bool
+    requires { ⌜ (n ≤ 32) × Graph (joinedIn (now neighbours)) n × (i < n) × (lone ≡ pack (isLone (joinedIn (now neighbours)) 32) n) ⌝ }
     ensures { λ r. ⌜ r ≡ isLocal (joinedIn (now (neighbours .entry))) 32 i ⌝ }
 {
     sets::member(lone, i) | sets::subset(neighbours[i], lone)
@@ -55,13 +56,13 @@ fn is_local(neighbours: &[u32; 32], lone: u32, i: usize) -> bool
 
 // So is each of the first n runs: every group is a star.
 fn are_local(neighbours: &[u32; 32], n: usize) -> bool
-    requires { ⌜ n ≤ 32 ⌝ }
+    requires { ⌜ (n ≤ 32) × Graph (joinedIn (now neighbours)) n ⌝ }
     ensures { λ r. ⌜ r ≡ every (isLocal (joinedIn (now (neighbours .entry))) 32) (below n) ⌝ }
 {
-    let lone = lone_runs(neighbours);
+    let lone = lone_runs(neighbours, n);
     let mut i: usize = 0;
     while i < n {
-        if !is_local(neighbours, lone, i) {
+        if !is_local(neighbours, n, lone, i) {
             return false;
         }
         i += 1;
@@ -84,36 +85,38 @@ fn centre_at(neighbours: &[u32; 32], i: usize) -> usize
     j
 }
 
-// The centres of the first n runs, where every group is a star.
-fn near_centres(neighbours: &[u32; 32], n: usize) -> [usize; 32]
-    requires { ⌜ n ≤ 32 ⌝ }
-    ensures { λ r. ⌜ r ≡ padded 32 (table (nearCentre (joinedIn (now (neighbours .entry))) 32) n) ⌝ }
+// Puts the centres of the first n runs, where every group is a star, among zeros.
+fn near_centres(neighbours: &[u32; 32], n: usize, centres: &mut [usize; 32])
+    requires { ⌜ (n ≤ 32) × (now centres ≡ replicate 32 0) ⌝ }
+    ensures { λ _. ⌜ now (centres .exit) ≡ padded 32 (table (nearCentre (joinedIn (now (neighbours .entry))) 32) n) ⌝ }
 {
-    let mut centres = [0usize; 32];
     let mut i: usize = 0;
     while i < n {
         centres[i] = centre_at(neighbours, i);
         i += 1;
     }
-    centres
 }
 
-// The centres of the groups of the first n runs.
+// Puts the centres of the groups of the first n runs among zeros, and says whether every group is a star; where one is none, the zeros stay.
+pub fn find_centres(neighbours: &[u32; 32], n: usize, centres: &mut [usize; 32]) -> bool
+    requires { ⌜ (n ≤ 32) × Graph (joinedIn (now neighbours)) n × (now centres ≡ replicate 32 0) ⌝ }
+    ensures { λ r. ⌜ record { stars = r; centres = now (centres .exit) } ≡ centresIn (joinedIn (now (neighbours .entry))) n ⌝ }
+{
+    if are_local(neighbours, n) {
+        near_centres(neighbours, n, centres);
+        return true;
+    }
+    false
+}
+
+// The same centres by value.
 pub fn centres_of(neighbours: &[u32; 32], n: usize) -> Centres
     requires { ⌜ (n ≤ 32) × Graph (joinedIn (now neighbours)) n ⌝ }
     ensures { λ r. ⌜ r ≡ centresIn (joinedIn (now (neighbours .entry))) n ⌝ }
 {
-    if are_local(neighbours, n) {
-        let centres = near_centres(neighbours, n);
-        return Centres {
-            stars: true,
-            centres,
-        };
-    }
-    Centres {
-        stars: false,
-        centres: [0; 32],
-    }
+    let mut centres = [0usize; 32];
+    let stars = find_centres(neighbours, n, &mut centres);
+    Centres { stars, centres }
 }
 
 // 1 where run i is its own centre, else 0.

@@ -4,17 +4,12 @@ pub mod sets;
 
 ghost use mathlib.Core.Path.{_≡_};
 ghost use Prim.Native.Nat.{_≤_, _<_};
+ghost use lib.ListN.{replicate};
 ghost use Rattle.grid.specs.Runs.{runsHeld};
 ghost use Rattle.network.specs.Graph.{below, degree};
 ghost use Rattle.intersection.specs.Cases.{Common, Makes, meeting};
 ghost use Rattle.intersection.specs.Centres.{meetsIn, neighbourSets, joinedIn};
-ghost use Rattle.intersection.specs.Steps.{sidesOf, boxAt, Compared, AllCompared};
-
-// The sides of all runs' boxes on one axis: the lower of each run's two values, and the higher.
-pub struct Sides {
-    pub lower: [u32; 32],
-    pub higher: [u32; 32],
-}
+ghost use Rattle.intersection.specs.Steps.{lowerSides, higherSides, boxAt, Compared, AllCompared};
 
 // The smallest upright rectangle that holds a run's two points.
 pub struct Box {
@@ -32,20 +27,25 @@ pub enum Case {
     Area,
 }
 
-fn box_sides(first: &[u32; 32], second: &[u32; 32]) -> Sides
-    ensures { λ r. ⌜ r ≡ sidesOf (now (first .entry)) (now (second .entry)) ⌝ }
+// Puts the sides of the first n runs' boxes on one axis, the lower of each run's two values and the higher, among zeros.
+fn box_sides(
+    first: &[u32; 32],
+    second: &[u32; 32],
+    n: usize,
+    lower: &mut [u32; 32],
+    higher: &mut [u32; 32],
+)
+    requires { ⌜ (n ≤ 32) × (now lower ≡ replicate 32 0) × (now higher ≡ replicate 32 0) ⌝ }
+    ensures { λ _. ⌜ (now (lower .exit) ≡ lowerSides (now (first .entry)) (now (second .entry)) n) × (now (higher .exit) ≡ higherSides (now (first .entry)) (now (second .entry)) n) ⌝ }
 {
-    let mut lower = [0u32; 32];
-    let mut higher = [0u32; 32];
     let mut i: usize = 0;
-    while i < 32 {
+    while i < n {
         let a = first[i];
         let b = second[i];
         lower[i] = grid::least(a, b);
         higher[i] = grid::most(a, b);
         i += 1;
     }
-    Sides { lower, higher }
 }
 
 fn box_at(left: &[u32; 32], right: &[u32; 32], low: &[u32; 32], high: &[u32; 32], i: usize) -> Box
@@ -132,7 +132,32 @@ fn compare_all(
     }
 }
 
-// The set of the runs that each of the first n runs meets. Each pair is compared once: 496 comparisons for 32 runs.
+// Puts the set of the runs that each of the first n runs meets among zeros. Each pair is compared once: 496 comparisons for 32 runs.
+pub fn find_neighbours(
+    x1: &[u32; 32],
+    y1: &[u32; 32],
+    x2: &[u32; 32],
+    y2: &[u32; 32],
+    n: usize,
+    sets: &mut [u32; 32],
+)
+    requires { ⌜ (n ≤ 32) × (now sets ≡ replicate 32 0) ⌝ }
+    ensures { λ _. ⌜ now (sets .exit) ≡ neighbourSets (meetsIn (runsHeld (now (x1 .entry)) (now (y1 .entry)) (now (x2 .entry)) (now (y2 .entry)) n)) n ⌝ }
+{
+    let mut left = [0u32; 32];
+    let mut right = [0u32; 32];
+    let mut low = [0u32; 32];
+    let mut high = [0u32; 32];
+    box_sides(x1, x2, n, &mut left, &mut right);
+    box_sides(y1, y2, n, &mut low, &mut high);
+    let mut i: usize = 0;
+    while i < n {
+        compare_all(&left, &right, &low, &high, i, sets);
+        i += 1;
+    }
+}
+
+// The same sets by value.
 pub fn neighbours(
     x1: &[u32; 32],
     y1: &[u32; 32],
@@ -143,18 +168,8 @@ pub fn neighbours(
     requires { ⌜ n ≤ 32 ⌝ }
     ensures { λ r. ⌜ r ≡ neighbourSets (meetsIn (runsHeld (now (x1 .entry)) (now (y1 .entry)) (now (x2 .entry)) (now (y2 .entry)) n)) n ⌝ }
 {
-    let x = box_sides(x1, x2);
-    let y = box_sides(y1, y2);
-    let left = x.lower;
-    let right = x.higher;
-    let low = y.lower;
-    let high = y.higher;
     let mut sets = [0u32; 32];
-    let mut i: usize = 0;
-    while i < n {
-        compare_all(&left, &right, &low, &high, i, &mut sets);
-        i += 1;
-    }
+    find_neighbours(x1, y1, x2, y2, n, &mut sets);
     sets
 }
 

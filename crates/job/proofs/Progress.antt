@@ -11,32 +11,18 @@ use Rattle.job.specs.declared.Run.{Run}
 use Rattle.job.specs.declared.Job.{Job}
 use Rattle.job.specs.declared.Answer.the-variants.{Accepted, Refused}
 use Rattle.refusal.specs.declared.Refusal.{Refusal}
-use Rattle.job.specs.declared.Record.{Record}
 use Rattle.job.specs.declared.Record.the-variants as rec
 use Rattle.job.specs.declared.Step.the-variants.{Next, End, Refuse}
 use Rattle.job.specs.Records.{recordOf}
 use Rattle.job.specs.Parse.{Parsed, accepted, refused, stepOf, withFirst, proceed, readFrom, firstBy, parse}
-use Rattle.job.specs.Reading.{jobOf, numberSaid, placeSaid, jobSaid, Reads}
-use Rattle.job.specs.Written.{noRun}
+use Rattle.job.specs.Reading.{jobOf, numberSaid, placeSaid, runsBefore, Blank, ReadsInto}
 use Rattle.job.proofs.Decoded.{record-says}
 use Rattle.job.proofs.Columns.{withRun, job-more}
 use Rattle.job.proofs.Steps.{taken}
 
--- the run in a record
-abbrev runIn : Record → Run
-runIn (rec.Run r) = r
-runIn (rec.Head number) = noRun
-runIn (rec.End count) = noRun
-runIn rec.Unknown = noRun
-runIn rec.Cut = noRun
-
--- the first n runs of a job's bytes: run k stands at 5 + 19 * k
-abbrev pub runsBefore : List ℕ → ℕ → List Run
-runsBefore s zero = []
-runsBefore s (suc n) = runsBefore s n ++ (runIn (recordOf (drop (5 + 19 * n) s)) ∷ [])
-
 -- those are n runs
-length-before : (s : List ℕ) (n : ℕ) → length (runsBefore s n) ≡ n
+pub length-before : (s : List ℕ) (n : ℕ) → length (runsBefore s n) ≡ n
+unfolding runsBefore
 length-before s zero = refl
 length-before s (suc n) = length-append (runsBefore s n) _ ∙ ap (λ (k : ℕ). k + 1) (length-before s n) ∙ add-one n
 
@@ -68,27 +54,52 @@ pub record SoFar (s : List ℕ) (number : ℕ) (found : Job) (at n last : ℕ) :
   pub runs : found ≡ jobOf number (runsBefore s n)
   pub rest : withAll (runsBefore s n) (readFrom (33 - n) number at n last (drop at s)) ≡ parse s
 
--- the reading of a refusal
-refuses : (s : List ℕ) (x : Refusal) → refused x ≡ parse s → Reads s (record { answer = Refused x; job = jobOf 0 [] })
-refuses s x e = record { number = ap numberSaid e; place = ap placeSaid e; job = ap jobSaid e }
-
--- a first record that is no head
-pub first-refused : (s : List ℕ) (x : Refusal) → refused x ≡ firstBy (recordOf s) (drop 5 s) → Reads s (record { answer = Refused x; job = jobOf 0 [] })
-unfolding parse
-first-refused s x e = refuses s x e
-
--- after the head
-pub so-far-none : (s : List ℕ) (number : ℕ) (found : Job) → recordOf s ≡ rec.Head number → found ≡ jobOf number [] → SoFar s number found 5 0 0
-unfolding parse firstBy
-so-far-none s number found e f =
-    let says = rw e at (record-says s) in
+-- a refusal, with the runs before it in the arrays
+refuses : (s : List ℕ) (x : Refusal) (number n : ℕ) (found : Job) → refused x ≡ parse s → found ≡ jobOf number (runsBefore s n)
+    → ReadsInto s (record { answer = Refused x; number = number; count = n }) found
+refuses s x number n found e h =
     record {
-      most = omega arith;
-      place = refl;
-      within = omega (arith, says .1, length-drop 1 s);
-      runs = f;
-      rest = rw e;
+      number = ap numberSaid e;
+      place = ap placeSaid e;
+      held = h;
+      whole = λ a. absurd (let z : _≡_ {A = ℕ} 0 1 = cc a in omega arith);
     }
+
+module _ (numbers x1 y1 x2 y2 : List ℕ) (blank : Blank numbers x1 y1 x2 y2) where
+  -- arrays of zeros hold no run
+  blank-none : (number : ℕ)
+      → _≡_ {A = Job} (record { number = number; count = 0; numbers = numbers; x1 = x1; y1 = y1; x2 = x2; y2 = y2 }) (jobOf number [])
+  blank-none number =
+      λ i. record {
+        number = number;
+        count = 0;
+        numbers = blank .0 i;
+        x1 = blank .1 i;
+        y1 = blank .2 i;
+        x2 = blank .3 i;
+        y2 = blank .4 i;
+      }
+
+  -- a first record that is no head
+  pub first-refused : (s : List ℕ) (x : Refusal) → refused x ≡ firstBy (recordOf s) (drop 5 s)
+      → ReadsInto s (record { answer = Refused x; number = 0; count = 0 })
+      (record { number = 0; count = 0; numbers = numbers; x1 = x1; y1 = y1; x2 = x2; y2 = y2 })
+  unfolding parse runsBefore
+  first-refused s x e = refuses s x 0 0 _ e (blank-none 0)
+
+  -- after the head
+  pub so-far-none : (s : List ℕ) (number : ℕ) → recordOf s ≡ rec.Head number
+      → SoFar s number (record { number = number; count = 0; numbers = numbers; x1 = x1; y1 = y1; x2 = x2; y2 = y2 }) 5 0 0
+  unfolding parse firstBy runsBefore
+  so-far-none s number e =
+      let says = rw e at (record-says s) in
+      record {
+        most = omega arith;
+        place = refl;
+        within = omega (arith, says .1, length-drop 1 s);
+        runs = blank-none number;
+        rest = rw e;
+      }
 
 module _ (s : List ℕ) (number : ℕ) (found : Job) (at n last : ℕ) (h : SoFar s number found at n last) where
   -- the runs so far, in front of what the record at hand says, are the whole answer
@@ -99,6 +110,7 @@ module _ (s : List ℕ) (number : ℕ) (found : Job) (at n last : ℕ) (h : SoFa
 
   -- the run at hand is the next of the first runs
   before-more : (r : Run) → recordOf (drop at s) ≡ rec.Run r → runsBefore s (suc n) ≡ runsBefore s n ++ (r ∷ [])
+  unfolding runsBefore
   before-more r e = rw (← h .place, e)
 
   -- there is room for one more run
@@ -122,11 +134,11 @@ module _ (s : List ℕ) (number : ℕ) (found : Job) (at n last : ℕ) (h : SoFa
       })
 
   -- at the end
-  pub so-far-end : stepOf at n last (drop at s) ≡ End → Reads s (record { answer = Accepted; job = found })
+  pub so-far-end : stepOf at n last (drop at s) ≡ End → ReadsInto s (record { answer = Accepted; number = number; count = n }) found
   so-far-end e =
       let whole = sym (with-accepted (runsBefore s n) number) ∙ (rw e at step-whole) in
-      record { number = ap numberSaid whole; place = ap placeSaid whole; job = h .runs ∙ ap jobSaid whole }
+      record { number = ap numberSaid whole; place = ap placeSaid whole; held = h .runs; whole = λ _. sym whole }
 
   -- at a refusal
-  pub so-far-refused : (x : Refusal) → stepOf at n last (drop at s) ≡ Refuse x → Reads s (record { answer = Refused x; job = jobOf 0 [] })
-  so-far-refused x e = refuses s x (sym (with-refused (runsBefore s n) x) ∙ (rw e at step-whole))
+  pub so-far-refused : (x : Refusal) → stepOf at n last (drop at s) ≡ Refuse x → ReadsInto s (record { answer = Refused x; number = number; count = n }) found
+  so-far-refused x e = refuses s x number n found (sym (with-refused (runsBefore s n) x) ∙ (rw e at step-whole)) (h .runs)

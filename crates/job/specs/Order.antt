@@ -1,5 +1,6 @@
--- Which refusal is given: "Order: 1, 2; then records front to back; within a record 4, 3, 5, 9, 7, 8, 6 ..; last 11. The first that applies is
--- given, and none otherwise" (document 01, "What a call says and leaves"; without 10 by document 02, C-11); 17 "is tested after 8 in the same record" (C-18).
+-- Which refusal is given: "records front to back; within a record 4, 3, 5, 9, 7, 8, 6 ..; last 11. The first that applies is given, and none otherwise"
+-- (document 01, "What a call says and leaves"; without 10 by document 02, C-11); 17 "is tested after 8 in the same record" (C-18); 1 or 2 "now tested after the
+-- job's bytes and before 11" (C-20).
 -- Assumes nothing.
 use Prim.Native.Nat.{ℕ, suc, _<_}
 use mathlib.Core.Path.{_≡_}
@@ -12,7 +13,7 @@ use Rattle.refusal.specs.declared.Refusal.{Refusal}
 
 -- the numbers, stage by stage; within a stage front to back, and at one place in this order
 abbrev pub order : List (List ℕ)
-order = (1 ∷ 2 ∷ []) ∷ (4 ∷ 3 ∷ 5 ∷ 9 ∷ 7 ∷ 8 ∷ 17 ∷ 6 ∷ []) ∷ (11 ∷ []) ∷ []
+order = (4 ∷ 3 ∷ 5 ∷ 9 ∷ 7 ∷ 8 ∷ 17 ∷ 6 ∷ []) ∷ (1 ∷ 2 ∷ []) ∷ (11 ∷ []) ∷ []
 
 -- how many elements stand before the first that passes the test; all, where none does
 abbrev pub before : {A : Type 0} → (A → Bool) → List A → ℕ

@@ -10,7 +10,7 @@ ghost use Rattle.job.specs.Fields.{word2, word4, biasedOf};
 ghost use Rattle.job.specs.Records.{runBody, decoded, recordOf};
 ghost use Rattle.job.specs.Branches.{NotRun, NotHead};
 ghost use Rattle.job.specs.Parse.{follows, coordinatesIn, coincide, runStep, endStep, stepBy, stepOf, refused, firstBy};
-ghost use Rattle.job.specs.Reading.{answerPlace, jobOf, Reads};
+ghost use Rattle.job.specs.Reading.{answerPlace, jobOf, Blank, ReadsInto, Reads};
 
 // A run from its first point (x1, y1) to its second (x2, y2). A coordinate is the decimetres plus 1,000,000.
 pub struct Run {
@@ -42,6 +42,13 @@ pub enum Answer {
 pub struct Reading {
     pub answer: Answer,
     pub job: Job,
+}
+
+// What reading into arrays says: the answer, the job's number and how many runs stand in the arrays.
+pub struct Found {
+    pub answer: Answer,
+    pub number: u32,
+    pub count: usize,
 }
 
 // What stands at a place of the job.
@@ -253,12 +260,12 @@ pub fn place_of(answer: Answer) -> usize
     }
 }
 
-// The job with this number and no run.
-fn empty_job(number: u32) -> Job
-    ensures { λ r. ⌜ r ≡ jobOf number [] ⌝ }
+// The job of number 0 with no run.
+fn empty_job() -> Job
+    ensures { λ r. ⌜ r ≡ jobOf 0 [] ⌝ }
 {
     Job {
-        number,
+        number: 0,
         count: 0,
         numbers: [0; 32],
         x1: [0; 32],
@@ -272,10 +279,64 @@ fn empty_job(number: u32) -> Job
 fn refusing(refusal: Refusal) -> Reading
     ensures { λ r. ⌜ r ≡ record { answer = Answer.Refused refusal; job = jobOf 0 [] } ⌝ }
 {
-    let job = empty_job(0);
+    let job = empty_job();
     Reading {
         answer: Answer::Refused(refusal),
         job,
+    }
+}
+
+// Reads a job into arrays of zeros, one for each field of a run: run k stands at k. Of a job that is refused, the runs before the refusal stand there.
+pub fn read_into(
+    job: &[u8],
+    numbers: &mut [u32; 32],
+    x1: &mut [u32; 32],
+    y1: &mut [u32; 32],
+    x2: &mut [u32; 32],
+    y2: &mut [u32; 32],
+) -> Found
+    requires { ⌜ Blank (now numbers) (now x1) (now y1) (now x2) (now y2) ⌝ }
+    ensures { λ r. ⌜ ReadsInto (now (job .entry)) r (record { number = r .number; count = r .count; numbers = now (numbers .exit); x1 = now (x1 .exit); y1 = now (y1 .exit); x2 = now (x2 .exit); y2 = now (y2 .exit) }) ⌝ }
+{
+    let first = record_at(job, 0);
+    let Record::Head(number) = first else {
+        let refusal = not_head(first);
+        return Found {
+            answer: Answer::Refused(refusal),
+            number: 0,
+            count: 0,
+        };
+    };
+    let mut at: usize = 5;
+    let mut n: usize = 0;
+    let mut last: u32 = 0;
+    loop {
+        match step_at(job, at, n, last) {
+            Step::Next(run) => {
+                numbers[n] = run.number;
+                x1[n] = run.x1;
+                y1[n] = run.y1;
+                x2[n] = run.x2;
+                y2[n] = run.y2;
+                at = at + 19;
+                n = n + 1;
+                last = run.number;
+            }
+            Step::End => {
+                return Found {
+                    answer: Answer::Accepted,
+                    number,
+                    count: n,
+                };
+            }
+            Step::Refuse(refusal) => {
+                return Found {
+                    answer: Answer::Refused(refusal),
+                    number,
+                    count: n,
+                };
+            }
+        }
     }
 }
 
@@ -283,36 +344,26 @@ fn refusing(refusal: Refusal) -> Reading
 pub fn read(job: &[u8]) -> Reading
     ensures { λ r. ⌜ Reads (now (job .entry)) r ⌝ }
 {
-    let first = record_at(job, 0);
-    let Record::Head(number) = first else {
-        return refusing(not_head(first));
-    };
-    let mut found = empty_job(number);
-    let mut at: usize = 5;
-    let mut n: usize = 0;
-    let mut last: u32 = 0;
-    loop {
-        match step_at(job, at, n, last) {
-            Step::Next(run) => {
-                found.numbers[n] = run.number;
-                found.x1[n] = run.x1;
-                found.y1[n] = run.y1;
-                found.x2[n] = run.x2;
-                found.y2[n] = run.y2;
-                found.count = n + 1;
-                at = at + 19;
-                n = n + 1;
-                last = run.number;
-            }
-            Step::End => {
-                return Reading {
-                    answer: Answer::Accepted,
-                    job: found,
-                };
-            }
-            Step::Refuse(refusal) => {
-                return refusing(refusal);
-            }
-        }
+    let mut numbers = [0u32; 32];
+    let mut x1 = [0u32; 32];
+    let mut y1 = [0u32; 32];
+    let mut x2 = [0u32; 32];
+    let mut y2 = [0u32; 32];
+    let found = read_into(job, &mut numbers, &mut x1, &mut y1, &mut x2, &mut y2);
+    let answer = found.answer;
+    match answer {
+        Answer::Accepted => Reading {
+            answer: Answer::Accepted,
+            job: Job {
+                number: found.number,
+                count: found.count,
+                numbers,
+                x1,
+                y1,
+                x2,
+                y2,
+            },
+        },
+        Answer::Refused(refusal) => refusing(refusal),
     }
 }

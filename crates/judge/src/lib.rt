@@ -40,9 +40,11 @@ pub fn known_of(j: Job, neighbours: [u32; 32], centres: [usize; 32]) -> Known
     ensures { λ k. ⌜ (k .job ≡ j) × Knows k ⌝ }
 {
     let groups = intersection::finder::count_groups(&centres, j.count);
-    let meets = figures::meets_figures(&neighbours, j.count);
+    let mut meets = [0u32; 32];
+    figures::tell_meets(&neighbours, j.count, &mut meets);
     let numbers = j.numbers;
-    let middles = figures::centre_numbers(&numbers, &centres, j.count);
+    let mut middles = [0u32; 32];
+    figures::tell_centres(&numbers, &centres, j.count, &mut middles);
     let x1 = j.x1;
     let y1 = j.y1;
     let x2 = j.x2;

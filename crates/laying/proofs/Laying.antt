@@ -3,12 +3,11 @@ use mathlib.Core.Path.{_≡_, refl, sym, ap, _∙_, subst}
 use mathlib.Core.Logic.{_⊎_, inl, inr}
 use mathlib.Core.Bool.{true}
 use mathlib.Core.List.{List, []}
-use Prim.Native.Nat.{ℕ, _+_, _*_, _≤_, _<_}
-use native.Mathlib.Nat.{le-trans, mul-le-mul, mul-le-mul-right}
+use Prim.Native.Nat.{ℕ, _*_, _≤_, _<_}
+use native.Mathlib.Nat.{le-trans, mul-comm, mul-le-mul, mul-le-mul-right}
 use native.Mathlib.Decide.{ℕ-discrete}
 use native.Mathlib.Omega.{arith}
-use lib.ListN.{length, length-map, getD, take}
-use lib.Seq.{length-take-le}
+use lib.ListN.{length, length-map, getD, drop}
 use Rattle.network.specs.Lists.{sum}
 use Rattle.network.specs.Plane.{Run}
 use Rattle.network.specs.Hanan.{hanan}
@@ -16,22 +15,23 @@ use Rattle.network.specs.Graph.{runAt, meets}
 use Rattle.network.specs.Steps.{Dir, hor, ver, Frame, drawn}
 use Rattle.sharing.specs.View.{lines}
 use Rattle.sharing.specs.Star.{Centred}
-use Rattle.table.specs.declared.side.Side.{Side}
-use Rattle.table.specs.declared.frame.Group.{Group}
-use Rattle.table.specs.Side.{firstOf, secondOf, Placed}
+use Rattle.table.specs.Side.{Side, firstOf, secondOf, Placed}
 use Rattle.table.specs.OnSides.{OnSides, viewBy, boxBy}
-use Rattle.table.specs.Frame.{Grouped}
+use Rattle.table.specs.Frame.{Group, Grouped}
 use Rattle.table.specs.Rule.{tableOf, Ruled, figureOf, Beyond}
 use Rattle.table.specs.Rule as rule
 use Rattle.table.specs.Walk.{walked}
 use Rattle.table.proofs.Lines.{gap-lt}
 use Rattle.table.proofs.Star.{group-fit}
 use Rattle.table.proofs.Survey.{sides-centred, star-exact, star-figure, star-traced}
-use Rattle.route.specs.declared.Route.{Route}
-use Rattle.route.specs.Route.{columnsOf, rowsOf, drawnOf, OnGrid}
+use Rattle.route.specs.declared.Track.{Track}
+use Rattle.route.specs.Route.{Route, columnsOf, rowsOf, drawnOf, OnGrid}
+use Rattle.route.specs.Stored.{tracksOf, routesIn}
+use Rattle.route.proofs.Stored.{routeIn, routes-length, routes-at}
 use Rattle.layout.specs.Points.{pointsOf}
-use Rattle.layout.specs.Laid.{unlaid, Layable}
-use Rattle.layout.proofs.Lists.{all-taken, mapped-at}
+use Rattle.layout.specs.Laid.{Layable, Laid}
+use Rattle.layout.proofs.Lists.{all-at, mapped-at}
+use Rattle.layout.proofs.Laying.{laid-more}
 use Rattle.layout.proofs.Fitting.{steps-lifted, steps-are, traced-layable}
 use Rattle.layout.proofs.Drawing.{laid-frame, laid-on-grid}
 use Rattle.groups.specs.Groups.{heads, centreOf}
@@ -39,16 +39,9 @@ use Rattle.groups.proofs.Stars.{Stars, stars, stars-same}
 use Rattle.groups.proofs.Runs.{meets-graph}
 use Rattle.lease.proofs.Excess.{leaves-apart}
 use Rattle.lease.proofs.Theorem.{lease-best}
-use Rattle.laying.specs.declared.Layout.{Layout}
-use Rattle.laying.specs.Lease.{tableWords, LeaseSurveyed, GroupLayable, GroupLaid, Served, Progress, drawnBy, LaidOut}
-
--- more runs need more words
-pub words-more : (n m : ℕ) → n ≤ m → tableWords n ≤ tableWords m
-words-more n m h = let k : n + n ≤ m + m = omega arith in mul-le-mul-right 4 (mul-le-mul k k)
-
--- the words of a table for at most 32 runs
-pub words-most : (n : ℕ) → n ≤ 32 → tableWords n ≤ 16384
-words-most n h = words-more n 32 h
+use Rattle.laying.specs.Lease.{tableWords, LeaseSurveyed, GroupLayable, GroupLaid, Served, Layout, drawnBy, LaidOut}
+use Rattle.laying.proofs.Blocks.{blockOf}
+use Rattle.laying.proofs.Loop.{Progress}
 
 module _ (runs : List Run) (xs ys : Side) (n : ℕ) (centres sets : List ℕ) (L : LeaseSurveyed runs xs ys n centres sets) where
   abbrev centre : ℕ → ℕ
@@ -73,43 +66,42 @@ module _ (runs : List Run) (xs ys : Side) (n : ℕ) (centres sets : List ℕ) (L
   module _ (c : ℕ) (h : c < n) where
     -- at most 64 lines
     lines-few : (d : Dir) → length (lines (hanan runs) d) ≤ 64
-    lines-few d = omega (arith, L .few-lines d, L .few)
+    lines-few d = L .few-lines d
 
-    placed-x : Placed xs n
+    placed-x : Placed (xs .first) (xs .second) n
     placed-x k l = (
       omega (arith, L .surveyed c h .first-at k (in-list k l) .fits hor, lines-few hor),
       omega (arith, L .surveyed c h .second-at k (in-list k l) .fits hor, lines-few hor),
     )
 
-    placed-y : Placed ys n
+    placed-y : Placed (ys .first) (ys .second) n
     placed-y k l = (
       omega (arith, L .surveyed c h .first-at k (in-list k l) .fits ver, lines-few ver),
       omega (arith, L .surveyed c h .second-at k (in-list k l) .fits ver, lines-few ver),
     )
 
     -- what the group asks for
-    pub group-asks : (n ≤ 32) × Placed xs n × Placed ys n × (c < n)
+    pub group-asks : (n ≤ 32) × Placed (xs .first) (xs .second) n × Placed (ys .first) (ys .second) n × (c < n)
     group-asks = (L .few, placed-x, placed-y, h)
 
     module _ (g : Group) (G : Grouped xs ys n c (getD sets c 0) g) where
-      -- the table takes four words for each vertex, of at most 2 n columns and 2 n rows
-      table-room : g .h * g .w * 4 ≤ tableWords n
+      -- the table takes four words for each vertex of the centre's box
+      table-room : g .h * g .w * 4 ≤ tableWords runs
       table-room =
-          let m = n + n in
           let S = L .surveyed c h in
           let k = in-list c h in
-          let w = gap-lt m (firstOf xs c) (secondOf xs c) (omega (arith, S .first-at c k .fits hor, L .few-lines hor)) (omega (arith, S .second-at c k .fits hor, L .few-lines hor)) in
-          let h = gap-lt m (firstOf ys c) (secondOf ys c) (omega (arith, S .first-at c k .fits ver, L .few-lines ver)) (omega (arith, S .second-at c k .fits ver, L .few-lines ver)) in
-          let wide : g .w ≤ n + n = omega (arith, G .wide) in
-          let high : g .h ≤ n + n = omega (arith, G .high) in
-          mul-le-mul-right 4 (mul-le-mul high wide)
+          let w = gap-lt (length (hanan runs .columns)) (firstOf xs c) (secondOf xs c) (S .first-at c k .fits hor) (S .second-at c k .fits hor) in
+          let h = gap-lt (length (hanan runs .rows)) (firstOf ys c) (secondOf ys c) (S .first-at c k .fits ver) (S .second-at c k .fits ver) in
+          let wide : g .w ≤ length (hanan runs .columns) = omega (arith, G .wide) in
+          let high : g .h ≤ length (hanan runs .rows) = omega (arith, G .high) in
+          subst (λ m. m * 4 ≤ tableWords runs) (mul-comm (g .w) (g .h)) (mul-le-mul-right 4 (mul-le-mul wide high))
 
-      pub group-fits : (words : List ℕ) → tableWords n ≤ length words → rule.Fit g words
+      pub group-fits : (words : List ℕ) → tableWords runs ≤ length words → rule.Fit g words
       group-fits words l = group-fit g xs ys n c (getD sets c 0) words G placed-x placed-y h (L .short) (le-trans table-room l)
 
-      -- nothing behind the 16,384 words changes
-      pub work-beyond : (old new : List ℕ) → Beyond old new (g .h * g .w * 4) → Beyond old new 16384
-      work-beyond old new b = record { size = b .size; same = λ k l. b .same k (le-trans table-room (le-trans (words-most n (L .few)) l)) }
+      -- nothing behind the table of the whole grid changes
+      pub work-beyond : (old new : List ℕ) → Beyond old new (g .h * g .w * 4) → Beyond old new (tableWords runs)
+      work-beyond old new b = record { size = b .size; same = λ k l. b .same k (le-trans table-room l) }
 
     module _ (e : centre c ≡ c) where
       -- the centre of a group is centred in the view that the sides give
@@ -140,26 +132,36 @@ module _ (runs : List Run) (xs ys : Side) (n : ℕ) (centres sets : List ℕ) (L
                   (star-traced (hanan runs) runs xs ys c (getD sets c 0) (L .surveyed c h) sees g G′ words R) k (in-list k l) (part k (in-list k l) z);
             }
 
-        -- so the routes laid by it serve the group, and share what the table says
-        pub group-served : (old new : List Route) → GroupLaid xs ys n centres c (walked g words) old new → Served runs xs ys centres c (figureOf g words) new
-        group-served old new laid =
+        -- so the steps laid by it serve the group, and share what the table says
+        pub group-served : (steps : ℕ → List ℕ) → GroupLaid xs ys n centres c (walked g words) steps → Served runs xs ys centres c (figureOf (g .w) (g .h) words) steps
+        group-served steps laid =
             record {
               table = tableOf (g .w) words;
               moves = walked g words;
               exact = star-exact (hanan runs) runs xs ys c (getD sets c 0) (L .surveyed c h) sees g G′ words R;
               traced = star-traced (hanan runs) runs xs ys c (getD sets c 0) (L .surveyed c h) sees g G′ words R;
               says = sym (star-figure (hanan runs) runs xs ys c (getD sets c 0) (L .surveyed c h) sees g G′ words R);
-              laid = λ k l z. laid .laid k (of-list k l) z;
+              laid = λ k l z. laid k (of-list k l) z;
             }
 
   -- ---- all groups
 
-  module _ (r : Layout) (full : 32 ≤ length (r .routes)) (P : Progress runs xs ys centres n r) where
-    served : (c : ℕ) → c < length runs → (e : centre c ≡ c) → Served runs xs ys centres c (P .size c) (r .routes)
+  module _ (saved stride : ℕ) (bytes : List ℕ) (P : Progress runs xs ys centres n saved (blockOf bytes stride)) where
+    served : (c : ℕ) → c < length runs → (e : centre c ≡ c) → Served runs xs ys centres c (P .size c) (blockOf bytes stride)
     served c h e = P .served c (of-list c h) e
 
-    route : ℕ → Route
-    route k = getD (r .routes) k unlaid
+    abbrev tracks : ℕ → Track
+    tracks = tracksOf (xs .first) (ys .first) (xs .second) (ys .second)
+
+    abbrev route : ℕ → Route
+    route k = routeIn bytes stride tracks k
+
+    abbrev layout : Layout
+    layout = record { saved = saved; routes = routesIn bytes stride tracks n }
+
+    laid : (k : ℕ) → k < length runs → (c : ℕ) (h : c < length runs) (e : centre c ≡ c) → centre k ≡ c
+        → Laid (pointsOf xs ys c) (pointsOf xs ys k) c (served c h e .moves) k (drop (k * stride) bytes)
+    laid k l c h e z = laid-more (pointsOf xs ys c) (pointsOf xs ys k) c (served c h e .moves) k stride (drop (k * stride) bytes) (served c h e .laid k l z)
 
     -- by the group of its centre each run is laid, and fits
     fits : (k : ℕ) (l : k < length runs) (c : ℕ) (z : centre k ≡ c) (h : c < length runs) (e : centre c ≡ c)
@@ -170,22 +172,22 @@ module _ (runs : List Run) (xs ys : Side) (n : ℕ) (centres sets : List ℕ) (L
         traced-layable (hanan runs) runs xs ys c (getD sets c 0) (sides c h) (lines-few c m) (sees c m e) (D .table) (D .moves) (D .traced) k l (part c m e k l z)
 
     frames : (k : ℕ) → k < length runs → Frame (hanan runs) (runAt runs k) (columnsOf (route k)) (rowsOf (route k))
-    unfolding route
     frames k l =
         let c = centre k in
         let h = centred-by .listed k l in
         let e = centred-by .own k l in
-        laid-frame (hanan runs) runs xs ys c (getD sets c 0) (sides c h) (served c h e .moves) k l (route k) (fits k l c refl h e) (served c h e .laid k l refl)
+        laid-frame (hanan runs) runs xs ys c (getD sets c 0) (sides c h) (served c h e .moves) k l (drop (k * stride) bytes) (fits k l c refl h e) (laid k l c h e refl)
+
+    full : length (layout .routes) ≡ length runs
+    full = routes-length bytes stride tracks n ∙ sym (L .count)
 
     -- THEOREM: the routes save what the tables say together, and no routes save more
-    pub laid-out : LaidOut runs r
-    unfolding route
+    pub laid-out : LaidOut runs layout
     laid-out =
-        let size : length runs ≤ length (r .routes) = omega (arith, L .few, L .count) in
         record {
           best = rw (P .total ∙ ap (λ m. sum (P .size) (heads centre m)) (sym (L .count)))
-              (lease-best (hanan runs) runs centre centred-by (λ k. columnsOf (route k)) (λ k. rowsOf (route k)) frames (drawnBy runs r)
-              (length-map (take (length runs) (r .routes)) (drawnOf (hanan runs)) ∙ length-take-le (length runs) (r .routes) size) (P .size)
+              (lease-best (hanan runs) runs centre centred-by (λ k. columnsOf (route k)) (λ k. rowsOf (route k)) frames (drawnBy runs layout)
+              (length-map (layout .routes) (drawnOf (hanan runs)) ∙ full) (P .size)
               (λ c h e. let D = served c h e in
               let m = of-list c h in (
                 record { flip = viewBy (hanan runs) xs ys c .flip; box = boxBy (hanan runs) xs ys c; table = D .table; moves = D .moves },
@@ -194,19 +196,22 @@ module _ (runs : List Run) (xs ys : Side) (n : ℕ) (centres sets : List ℕ) (L
                   exact = D .exact;
                   says = D .says;
                   traced = D .traced;
-                  drawn-by = λ k l z. mapped-at (drawnOf (hanan runs)) (length runs) (r .routes) k unlaid [] l size
+                  drawn-by = λ k l z. mapped-at (drawnOf (hanan runs)) (layout .routes) k (route 0) [] (rw full l)
+                      ∙ ap (drawnOf (hanan runs)) (routes-at bytes stride tracks n k (route 0) (of-list k l))
                       ∙ ap (drawn (hanan runs) (columnsOf (route k)) (rowsOf (route k)))
-                      (D .laid k l z .goes ∙ steps-lifted (hanan runs) runs xs ys c (getD sets c 0) (sides c h) (lines-few c m) (D .moves) h k l
+                      (laid k l c h e z .goes ∙ steps-lifted (hanan runs) runs xs ys c (getD sets c 0) (sides c h) (lines-few c m) (D .moves) h k l
                       ∙ steps-are (hanan runs) runs xs ys c (getD sets c 0) (sides c h) (lines-few c m) (sees c m e) (D .table) (D .moves) (D .traced) k (part c m e k l z));
                 },
               )));
-          on-grid = all-taken (OnGrid (hanan runs)) (length runs) (r .routes) unlaid size (λ k l.
+          on-grid = all-at (OnGrid (hanan runs)) (layout .routes) (route 0) (λ k i.
+              let l : k < length runs = rw (sym full) i in
               let c = centre k in
               let h = centred-by .listed k l in
               let e = centred-by .own k l in
               let p = sides c h .first-at k l in
               let q = sides c h .second-at k l in
-              laid-on-grid (pointsOf xs ys c) (pointsOf xs ys k) c (served c h e .moves) k (route k) (fits k l c refl h e) (served c h e .laid k l refl) (hanan runs)
-              (p .fits hor, q .fits hor) (p .fits ver, q .fits ver));
-          full = length-take-le (length runs) (r .routes) size;
+              rw (routes-at bytes stride tracks n k (route 0) (of-list k l))
+              (laid-on-grid (pointsOf xs ys c) (pointsOf xs ys k) c (served c h e .moves) k (drop (k * stride) bytes) (fits k l c refl h e) (laid k l c h e refl) (hanan runs)
+              (p .fits hor, q .fits hor) (p .fits ver, q .fits ver)));
+          full = full;
         }

@@ -1,90 +1,137 @@
 // The routes of all runs of a lease: its groups are laid one after the other, in the same work words.
-use route::Route;
-use route::Vertex;
-use table::side::Side;
-use table::trace::Trace;
 ghost use mathlib.Core.Path.{_≡_};
 ghost use mathlib.Core.List.{List};
 ghost use Prim.Native.Nat.{_≤_, _<_};
 ghost use lib.ListN.{length, getD};
 ghost use Rattle.network.specs.Plane.{Run};
+ghost use Rattle.table.specs.Side.{sideOf};
 ghost use Rattle.table.specs.Rule.{Beyond};
-ghost use Rattle.laying.specs.Lease.{tableWords, LeaseSurveyed, Serving, LaidOut};
+ghost use Rattle.table.specs.Walk.{traceOf, movesOf};
+ghost use Rattle.route.specs.Stored.{tracksOf, routesIn};
+ghost use Rattle.laying.specs.Lease.{tableWords, LeaseSurveyed, Serving, Roomy, LaidOut};
 
-// A route for each run, and what they save together.
-pub struct Layout {
-    pub saved: u64,
-    pub routes: [Route; 32],
-}
-
-// The moves of a centre, and what they share.
+// How many moves a centre has, and what they share.
 pub struct Moves {
     pub saved: u32,
-    pub trace: Trace,
+    pub count: usize,
 }
 
 // The moves of the centre c, by a table over its box alone.
 fn moves_of(
-    xs: Side,
-    ys: Side,
+    xfirst: &[u32; 32],
+    xsecond: &[u32; 32],
+    xlen: &[u32; 64],
+    yfirst: &[u32; 32],
+    ysecond: &[u32; 32],
+    ylen: &[u32; 64],
     n: usize,
     centres: &[usize; 32],
     neighbours: &[u32; 32],
     c: usize,
     work: &mut [u32],
+    cols: &mut [u32; 192],
+    rows: &mut [u32; 192],
+    steps: &mut [u8; 128],
+    shares: &mut [u8; 128],
 ) -> Moves
-    requires { ⌜ ((runs : List Run) × LeaseSurveyed runs xs ys n (now centres) (now neighbours)) × (c < n) × (getD (now centres) c 0 ≡ c)
-        × (tableWords n ≤ length (now work)) ⌝ }
-    ensures { λ r. ⌜ ((runs : List Run) → LeaseSurveyed runs xs ys n (now (centres .entry)) (now (neighbours .entry))
-        → Serving runs xs ys (now (centres .entry)) n c r) × Beyond (now (work .entry)) (now (work .exit)) 16384 ⌝ }
+    requires { ⌜ ((runs : List Run) × LeaseSurveyed runs (sideOf (now xfirst) (now xsecond) (now xlen)) (sideOf (now yfirst) (now ysecond) (now ylen))
+        n (now centres) (now neighbours) × (tableWords runs ≤ length (now work)))
+        × (c < n) × (getD (now centres) c 0 ≡ c)
+        × (length (now cols) ≡ 192) × (length (now rows) ≡ 192) × (length (now steps) ≡ 128) × (length (now shares) ≡ 128) ⌝ }
+    ensures { λ r. ⌜ (let xs = sideOf (now (xfirst .entry)) (now (xsecond .entry)) (now (xlen .entry)) in
+        let ys = sideOf (now (yfirst .entry)) (now (ysecond .entry)) (now (ylen .entry)) in
+        (runs : List Run) → LeaseSurveyed runs xs ys n (now (centres .entry)) (now (neighbours .entry))
+        → Serving runs xs ys (now (centres .entry)) n c (movesOf (traceOf (now (steps .exit)) (now (shares .exit)) (r .count))) (r .saved)
+        × Beyond (now (work .entry)) (now (work .exit)) (tableWords runs))
+        × (length (now (cols .exit)) ≡ 192) × (length (now (rows .exit)) ≡ 192) × (length (now (steps .exit)) ≡ 128) × (length (now (shares .exit)) ≡ 128) ⌝ }
 {
-    let group = table::frame::group_of(xs, ys, n, c, neighbours[c]);
-    table::fill::fill(work, group);
-    let saved = table::fill::figure_of(&*work, group);
-    let trace = table::trace::trace_of(&*work, group);
-    Moves { saved, trace }
+    let g = table::frame::group_of(
+        xfirst,
+        xsecond,
+        xlen,
+        yfirst,
+        ysecond,
+        ylen,
+        n,
+        c,
+        neighbours[c],
+        cols,
+        rows,
+    );
+    table::fill::fill(work, &*cols, &*rows, g);
+    let saved = table::fill::figure_of(&*work, g);
+    let count = table::trace::trace_of(&*work, &*cols, &*rows, g, steps, shares);
+    Moves { saved, count }
 }
 
-// The routes of n runs whose groups are stars with these centres. Both loops stand here, and a run's points are looked up here: handed on, all routes would be
-// copied for each group, and the sides for each run.
+// Writes the steps of n runs whose groups are stars with these centres, those of run k from k * stride on, and gives what the routes save together.
 pub fn lay(
-    xs: Side,
-    ys: Side,
+    xfirst: &[u32; 32],
+    xsecond: &[u32; 32],
+    xlen: &[u32; 64],
+    yfirst: &[u32; 32],
+    ysecond: &[u32; 32],
+    ylen: &[u32; 64],
     n: usize,
     centres: &[usize; 32],
     neighbours: &[u32; 32],
     work: &mut [u32],
-) -> Layout
-    requires { ⌜ ((runs : List Run) × LeaseSurveyed runs xs ys n (now centres) (now neighbours)) × (tableWords n ≤ length (now work)) ⌝ }
-    ensures { λ r. ⌜ ((runs : List Run) → LeaseSurveyed runs xs ys n (now (centres .entry)) (now (neighbours .entry)) → LaidOut runs r)
-        × Beyond (now (work .entry)) (now (work .exit)) 16384 ⌝ }
+    routes: &mut [u8],
+    stride: usize,
+) -> u64
+    requires { ⌜ ((runs : List Run) × LeaseSurveyed runs (sideOf (now xfirst) (now xsecond) (now xlen)) (sideOf (now yfirst) (now ysecond) (now ylen))
+        n (now centres) (now neighbours) × (tableWords runs ≤ length (now work)))
+        × Roomy (sideOf (now xfirst) (now xsecond) (now xlen)) (sideOf (now yfirst) (now ysecond) (now ylen)) n stride (now routes) ⌝ }
+    ensures { λ r. ⌜ (let xs = sideOf (now (xfirst .entry)) (now (xsecond .entry)) (now (xlen .entry)) in
+        let ys = sideOf (now (yfirst .entry)) (now (ysecond .entry)) (now (ylen .entry)) in
+        (runs : List Run) → LeaseSurveyed runs xs ys n (now (centres .entry)) (now (neighbours .entry))
+        → LaidOut runs (record { saved = r; routes = routesIn (now (routes .exit)) stride (tracksOf (xs .first) (ys .first) (xs .second) (ys .second)) n })
+        × Beyond (now (work .entry)) (now (work .exit)) (tableWords runs))
+        × (length (now (routes .exit)) ≡ length (now (routes .entry))) ⌝ }
 {
+    let mut cols = [0u32; 192];
+    let mut rows = [0u32; 192];
+    let mut steps = [0u8; 128];
+    let mut shares = [0u8; 128];
     let mut saved: u64 = 0;
-    let mut routes = [Route {
-        steps: [0u8; 128],
-        count: 0,
-        start: Vertex { column: 0, row: 0 },
-        right: false,
-        up: false,
-    }; 32];
     let mut i: usize = 0;
     while i < n {
         if centres[i] == i {
-            let moves = moves_of(xs, ys, n, centres, neighbours, i, work);
-            let trace = moves.trace;
-            let centre = layout::both_points(xs.first[i], ys.first[i], xs.second[i], ys.second[i]);
-            let found = layout::stretches(trace);
+            let moves = moves_of(
+                xfirst,
+                xsecond,
+                xlen,
+                yfirst,
+                ysecond,
+                ylen,
+                n,
+                centres,
+                neighbours,
+                i,
+                work,
+                &mut cols,
+                &mut rows,
+                &mut steps,
+                &mut shares,
+            );
+            let centre = layout::both_points(xfirst[i], yfirst[i], xsecond[i], ysecond[i]);
+            let found = layout::stretches(&steps, &shares, moves.count);
             let mut k: usize = 0;
             while k < n {
                 if centres[k] == i {
-                    let run = layout::both_points(
-                        xs.first[k],
-                        ys.first[k],
-                        xs.second[k],
-                        ys.second[k],
-                    );
+                    let run = layout::both_points(xfirst[k], yfirst[k], xsecond[k], ysecond[k]);
                     let s = found[k];
-                    routes[k] = layout::route_of(centre, run, i, k, trace, s);
+                    let at = k * stride;
+                    layout::route_of(
+                        centre,
+                        run,
+                        i,
+                        k,
+                        &steps,
+                        moves.count,
+                        s,
+                        &mut routes[at..at + stride],
+                    );
                 }
                 k += 1;
             }
@@ -92,5 +139,5 @@ pub fn lay(
         }
         i += 1;
     }
-    Layout { saved, routes }
+    saved
 }

@@ -15,14 +15,12 @@ use Rattle.network.proofs.Numbers.{gap-rise, gap-fall}
 use Rattle.network.proofs.Lanes.{point-path}
 use Rattle.sharing.specs.Trace.{Move}
 use Rattle.sharing.specs.View.{Indexed}
-use Rattle.route.specs.declared.Route.{Route}
 use Rattle.route.specs.Route.{lane, columnsOf, rowsOf, OnGrid}
-use Rattle.table.specs.declared.side.Side.{Side}
-use Rattle.table.specs.Side.{firstOf, secondOf}
+use Rattle.table.specs.Side.{Side, firstOf, secondOf}
 use Rattle.table.specs.OnSides.{firstAt, secondAt, OnSides}
 use Rattle.layout.specs.declared.Points.{Points}
 use Rattle.layout.specs.Points.{pointsOf}
-use Rattle.layout.specs.Laid.{Layable, Laid}
+use Rattle.layout.specs.Laid.{routeTo, Layable, Laid}
 use Rattle.layout.proofs.Laying.{leads-apart}
 
 -- ---- the lane from one line to another
@@ -53,21 +51,21 @@ lane-upto p q = go (leb p q) refl
 
 -- ---- one route
 
-module _ (a e : Points) (c : ℕ) (moves : List Move) (k : ℕ) (r : Route) (S : Layable a e c moves k) (l : Laid a e c moves k r) where
+module _ (a e : Points) (c : ℕ) (moves : List Move) (k : ℕ) (r : List ℕ) (S : Layable a e c moves k) (l : Laid a e c moves k r) where
   -- it passes the lines between its run's points
-  columns-are : columnsOf r ≡ laneTo (e .x .first) (e .x .second)
-  columns-are = λ i. lane (l .rightward i) (l .column i) ((ap (steps hor) (l .goes) ∙ leads-apart a e c moves k S hor) i)
+  columns-are : columnsOf (routeTo r e) ≡ laneTo (e .x .first) (e .x .second)
+  columns-are = ap (lane (leb (e .x .first) (e .x .second)) (e .x .first)) (ap (steps hor) (l .goes) ∙ leads-apart a e c moves k S hor)
 
   -- in both directions
-  rows-are : rowsOf r ≡ laneTo (e .y .first) (e .y .second)
-  rows-are = λ i. lane (l .upward i) (l .row i) ((ap (steps ver) (l .goes) ∙ leads-apart a e c moves k S ver) i)
+  rows-are : rowsOf (routeTo r e) ≡ laneTo (e .y .first) (e .y .second)
+  rows-are = ap (lane (leb (e .y .first) (e .y .second)) (e .y .first)) (ap (steps ver) (l .goes) ∙ leads-apart a e c moves k S ver)
 
   -- so it is on any grid that has them
   pub laid-on-grid : (g : Grid) → (e .x .first < length (g .columns)) × (e .x .second < length (g .columns))
-      → (e .y .first < length (g .rows)) × (e .y .second < length (g .rows)) → OnGrid g r
+      → (e .y .first < length (g .rows)) × (e .y .second < length (g .rows)) → OnGrid g (routeTo r e)
   laid-on-grid g x y =
       record {
-        held = omega (arith, l .held);
+        held = l .held;
         columns-fit = rw columns-are (lane-fits (g .columns) (e .x .first) (e .x .second) (x .0) (x .1));
         rows-fit = rw rows-are (lane-fits (g .rows) (e .y .first) (e .y .second) (y .0) (y .1));
       }
@@ -80,8 +78,8 @@ vertex-at g p i x = point-path (x .at-line hor) (x .at-line ver)
 
 module _ (g : Grid) (runs : List Run) (xs ys : Side) (c leaves : ℕ) (S : OnSides g runs xs ys c leaves) (moves : List Move) where
   -- a route that is laid has a frame of its run
-  pub laid-frame : (k : ℕ) → k < length runs → (r : Route) → Layable (pointsOf xs ys c) (pointsOf xs ys k) c moves k
-      → Laid (pointsOf xs ys c) (pointsOf xs ys k) c moves k r → Frame g (runAt runs k) (columnsOf r) (rowsOf r)
+  pub laid-frame : (k : ℕ) → k < length runs → (r : List ℕ) → Layable (pointsOf xs ys c) (pointsOf xs ys k) c moves k
+      → Laid (pointsOf xs ys c) (pointsOf xs ys k) c moves k r → Frame g (runAt runs k) (columnsOf (routeTo r (pointsOf xs ys k))) (rowsOf (routeTo r (pointsOf xs ys k)))
   laid-frame k h r a l =
       let p = S .first-at k h in
       let q = S .second-at k h in
@@ -91,7 +89,7 @@ module _ (g : Grid) (runs : List Run) (xs ys : Side) (c leaves : ℕ) (S : OnSid
       record {
         columns-fit = on .columns-fit;
         rows-fit = on .rows-fit;
-        from = ap₂ (vertex g) (lane-from (r .right) (r .start .column) _ ∙ l .column) (lane-from (r .up) (r .start .row) _ ∙ l .row) ∙ vertex-at g _ (firstAt xs ys k) p;
+        from = ap₂ (vertex g) (lane-from (leb (firstOf xs k) (secondOf xs k)) (firstOf xs k) _) (lane-from (leb (firstOf ys k) (secondOf ys k)) (firstOf ys k) _) ∙ vertex-at g _ (firstAt xs ys k) p;
         upto = ap₂ (vertex g) (ap (λ z. at z (extent z)) X ∙ lane-upto (firstOf xs k) (secondOf xs k)) (ap (λ z. at z (extent z)) Y ∙ lane-upto (firstOf ys k) (secondOf ys k))
             ∙ vertex-at g _ (secondAt xs ys k) q;
       }

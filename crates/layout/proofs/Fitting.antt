@@ -23,7 +23,7 @@ use Rattle.sharing.specs.View.{lines, index}
 use Rattle.sharing.specs.Star.{starOf, Centred, stepsOf}
 use Rattle.sharing.proofs.Leaf.{leaf-leads}
 use Rattle.sharing.proofs.Centre.{leaf-is, separate}
-use Rattle.table.specs.declared.side.Side.{Side}
+use Rattle.table.specs.Side.{Side}
 use Rattle.table.specs.OnSides.{firstAt, secondAt, OnSides, viewBy, boxBy}
 use Rattle.layout.specs.Points.{pointsOf, goesBack, box64}
 use Rattle.layout.specs.Laid.{stepsBy, Layable}

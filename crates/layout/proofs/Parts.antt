@@ -13,8 +13,7 @@ use Rattle.network.specs.Steps.{ver}
 use Rattle.sharing.specs.Trace.{Move}
 use Rattle.sharing.specs.Walk.{dirs, moved}
 use Rattle.sharing.specs.Leaf.{before, stretch}
-use Rattle.table.specs.declared.trace.Trace.{Trace}
-use Rattle.table.specs.Walk.{dirBy, moveAt, movesOf}
+use Rattle.table.specs.Walk.{Trace, dirBy, moveAt, movesOf}
 use Rattle.route.specs.Route.{dirOf}
 use Rattle.network.proofs.StepCounts.{steps-all}
 use Rattle.layout.specs.declared.Stretch.{Stretch}

@@ -5,8 +5,7 @@ use lib.Dec.{ltb}
 use Rattle.network.specs.Steps.{Dir, hor, ver}
 use Rattle.sharing.specs.Box.{Box}
 use Rattle.sharing.specs.View.{index}
-use Rattle.table.specs.declared.side.Side.{Side}
-use Rattle.table.specs.Side.{firstOf, secondOf}
+use Rattle.table.specs.Side.{Side, firstOf, secondOf}
 use Rattle.layout.specs.declared.Ends.{Ends}
 use Rattle.layout.specs.declared.Points.{Points}
 

@@ -1,41 +1,37 @@
 // From a centre's moves to the route of a run of its group, as steps on the grid's lines. A run is known by its index, and its points by the indexes of their
 // lines on the two axes (`xs` and `ys`). The centre's moves are the trace of the table: steps (0 along the row, any other along the column), and for each
 // the leaf that it is shared with (32 or above: none).
-use route::Route;
-use route::Vertex;
 use table::frame::gap;
-use table::side::wide;
-use table::trace::Trace;
 ghost use mathlib.Core.Path.{_≡_};
 ghost use mathlib.Core.Bool.{cond};
-ghost use mathlib.Core.List.{map, reverse};
+ghost use mathlib.Core.List.{List, map, reverse};
 ghost use Prim.Native.Nat.{ℕ, _+_, _-_, _≤_, _<_};
-ghost use lib.ListN.{getD};
+ghost use lib.ListN.{length, getD};
 ghost use lib.Seq.{slice};
 ghost use Rattle.network.specs.Plane.{gap};
 ghost use Rattle.network.specs.Steps.{hor, ver};
 ghost use Rattle.sharing.specs.View.{index};
 ghost use Rattle.sharing.specs.Leaf.{turnIf};
 ghost use Rattle.route.specs.Route.{dirOf};
-ghost use Rattle.table.specs.Walk.{movesOf};
+ghost use Rattle.table.specs.Walk.{traceOf, movesOf};
 ghost use Rattle.layout.specs.Points.{OnLines, numberOf};
 ghost use Rattle.layout.specs.Stretch.{alongRow, nothing, grown, Found};
 ghost use Rattle.layout.specs.Way.{wayOf, passesForth, legOf};
-ghost use Rattle.layout.specs.Laid.{Longer, begun, Layable, Stretched, Laid};
+ghost use Rattle.layout.specs.Laid.{Longer, routeTo, Ready, Stretched, Laid};
 
 // The moves that are shared with a leaf: `size` moves from index `from` on. Of the moves before them `across` go along the row, and of themselves
 // `wide`.
 pub struct Stretch {
-    pub from: usize,
-    pub size: usize,
-    pub across: usize,
-    pub wide: usize,
+    pub from: u8,
+    pub size: u8,
+    pub across: u8,
+    pub wide: u8,
 }
 
 // The points of a run on one axis, by the indexes of their lines.
 pub struct Ends {
-    pub first: u8,
-    pub second: u8,
+    pub first: u32,
+    pub second: u32,
 }
 
 // The points of a run on both axes.
@@ -51,38 +47,36 @@ pub struct Way {
     pub forward: bool,
 }
 
-// ---- a route that grows
+// ---- steps that grow
 
-// The route with the steps from index `from` up to `upto` more.
-fn forth(r: Route, steps: [u8; 128], from: usize, upto: usize) -> Route
-    requires { ⌜ (from ≤ upto) × (upto ≤ 128) × (r .count + (upto - from) ≤ 128) ⌝ }
-    ensures { λ s. ⌜ Longer r (upto - from) (map dirOf (slice from upto steps)) s ⌝ }
+// Writes the steps from index `from` up to `upto` at index `at` on, and gives the index behind them.
+fn forth(to: &mut [u8], at: usize, steps: &[u8; 128], from: usize, upto: usize) -> usize
+    requires { ⌜ (from ≤ upto) × (upto ≤ 128) × (at + (upto - from) ≤ length (now to)) × (length (now steps) ≡ 128) ⌝ }
+    ensures { λ r. ⌜ Longer (now (to .entry)) at (upto - from) (map dirOf (slice from upto (now (steps .entry)))) (now (to .exit)) r ⌝ }
 {
-    let mut s = r;
+    let mut k = at;
     let mut i = from;
     while i < upto {
-        let at = s.count;
-        s.steps[at] = steps[i];
-        s.count = at + 1;
+        to[k] = steps[i];
+        k += 1;
         i += 1;
     }
-    s
+    k
 }
 
 // The same steps, the last one first.
-fn back(r: Route, steps: [u8; 128], from: usize, upto: usize) -> Route
-    requires { ⌜ (from ≤ upto) × (upto ≤ 128) × (r .count + (upto - from) ≤ 128) ⌝ }
-    ensures { λ s. ⌜ Longer r (upto - from) (reverse (map dirOf (slice from upto steps))) s ⌝ }
+fn back(to: &mut [u8], at: usize, steps: &[u8; 128], from: usize, upto: usize) -> usize
+    requires { ⌜ (from ≤ upto) × (upto ≤ 128) × (at + (upto - from) ≤ length (now to)) × (length (now steps) ≡ 128) ⌝ }
+    ensures { λ r. ⌜ Longer (now (to .entry)) at (upto - from) (reverse (map dirOf (slice from upto (now (steps .entry))))) (now (to .exit)) r ⌝ }
 {
-    let mut s = r;
+    let mut k = at;
     let mut i = upto;
     while from < i {
         i -= 1;
-        let at = s.count;
-        s.steps[at] = steps[i];
-        s.count = at + 1;
+        to[k] = steps[i];
+        k += 1;
     }
-    s
+    k
 }
 
 // A step of a leg, along the row or along the column.
@@ -92,21 +86,20 @@ fn leg_step(row: bool) -> u8
     if row { 0 } else { 1 }
 }
 
-// The route with steps along the row and then along the column more. One loop: a loop for each direction would become a call for a few bytes.
-fn leg(r: Route, across: usize, up: usize) -> Route
-    requires { ⌜ r .count + across + up ≤ 128 ⌝ }
-    ensures { λ s. ⌜ Longer r (across + up) (legOf across up) s ⌝ }
+// Writes steps along the row and then along the column. One loop: a loop for each direction would become a call for a few bytes.
+fn leg(to: &mut [u8], at: usize, across: usize, up: usize) -> usize
+    requires { ⌜ at + (across + up) ≤ length (now to) ⌝ }
+    ensures { λ r. ⌜ Longer (now (to .entry)) at (across + up) (legOf across up) (now (to .exit)) r ⌝ }
 {
-    let mut s = r;
+    let mut k = at;
     let n = across + up;
     let mut i: usize = 0;
     while i < n {
-        let at = s.count;
-        s.steps[at] = leg_step(i < across);
-        s.count = at + 1;
+        to[k] = leg_step(i < across);
+        k += 1;
         i += 1;
     }
-    s
+    k
 }
 
 // Which way a run that goes `right` along the row and `up` along the column passes a stretch that begins with the step.
@@ -116,29 +109,38 @@ fn passes_forth(step: u8, right: bool, up: bool) -> bool
     if step == 0 { right } else { up }
 }
 
-// The route with the stretch from index `from` up to `upto` more.
-fn along(r: Route, steps: [u8; 128], from: usize, upto: usize, right: bool, up: bool) -> Route
-    requires { ⌜ (from < upto) × (upto ≤ 128) × (r .count + (upto - from) ≤ 128) ⌝ }
-    ensures { λ s. ⌜ Longer r (upto - from) (turnIf (passesForth (getD steps from 0) right up) (map dirOf (slice from upto steps))) s ⌝ }
+// Writes the stretch from index `from` up to `upto`.
+fn along(
+    to: &mut [u8],
+    at: usize,
+    steps: &[u8; 128],
+    from: usize,
+    upto: usize,
+    right: bool,
+    up: bool,
+) -> usize
+    requires { ⌜ (from < upto) × (upto ≤ 128) × (at + (upto - from) ≤ length (now to)) × (length (now steps) ≡ 128) ⌝ }
+    ensures { λ r. ⌜ Longer (now (to .entry)) at (upto - from)
+        (turnIf (passesForth (getD (now (steps .entry)) from 0) right up) (map dirOf (slice from upto (now (steps .entry))))) (now (to .exit)) r ⌝ }
 {
     if passes_forth(steps[from], right, up) {
-        return forth(r, steps, from, upto);
+        return forth(to, at, steps, from, upto);
     }
-    back(r, steps, from, upto)
+    back(to, at, steps, from, upto)
 }
 
 // ---- where the moves shared with each leaf stand
 
 // How many columns a step passes.
-fn along_row(step: u8) -> usize
+fn along_row(step: u8) -> u8
     ensures { λ r. ⌜ (r ≡ alongRow step) × (r ≤ 1) ⌝ }
 {
     if step == 0 { 1 } else { 0 }
 }
 
 // The stretch with the move i more, before which `across` moves go along the row.
-fn with_move(s: Stretch, i: usize, across: usize, step: u8) -> Stretch
-    requires { ⌜ (s .size < 256) × (s .wide < 256) ⌝ }
+fn with_move(s: Stretch, i: u8, across: u8, step: u8) -> Stretch
+    requires { ⌜ (s .size < 255) × (s .wide < 255) ⌝ }
     ensures { λ r. ⌜ r ≡ grown s i across step ⌝ }
 {
     let wide = s.wide + along_row(step);
@@ -159,10 +161,16 @@ fn with_move(s: Stretch, i: usize, across: usize, step: u8) -> Stretch
     }
 }
 
+fn wide(x: u8) -> usize
+    ensures { λ r. ⌜ r ≡ x ⌝ }
+{
+    x as usize
+}
+
 // For each leaf, where the moves that are shared with it stand.
-pub fn stretches(moves: Trace) -> [Stretch; 32]
-    requires { ⌜ moves .count ≤ 128 ⌝ }
-    ensures { λ r. ⌜ ((k : ℕ) → k < 32 → Found k (movesOf moves) (getD r k nothing)) ⌝ }
+pub fn stretches(steps: &[u8; 128], shares: &[u8; 128], count: usize) -> [Stretch; 32]
+    requires { ⌜ count ≤ 128 ⌝ }
+    ensures { λ r. ⌜ ((k : ℕ) → k < 32 → Found k (movesOf (traceOf (now (steps .entry)) (now (shares .entry)) count)) (getD r k nothing)) ⌝ }
 {
     let mut t = [Stretch {
         from: 0,
@@ -170,14 +178,14 @@ pub fn stretches(moves: Trace) -> [Stretch; 32]
         across: 0,
         wide: 0,
     }; 32];
-    let mut across: usize = 0;
+    let mut across: u8 = 0;
     let mut i: usize = 0;
-    while i < moves.count {
-        let step = moves.steps[i];
-        let k = wide(moves.shares[i]);
+    while i < count {
+        let step = steps[i];
+        let k = wide(shares[i]);
         if k < 32 {
             let s = t[k];
-            t[k] = with_move(s, i, across, step);
+            t[k] = with_move(s, (i % 256) as u8, across, step);
         }
         across += along_row(step);
         i += 1;
@@ -188,11 +196,11 @@ pub fn stretches(moves: Trace) -> [Stretch; 32]
 // ---- the ways of a run
 
 // The number of a line in the centre's view: lines are counted as the centre goes.
-fn number(flip: bool, i: u8) -> usize
+fn number(flip: bool, i: u32) -> usize
     requires { ⌜ i < 64 ⌝ }
     ensures { λ r. ⌜ (r ≡ index flip 64 i) × (r < 64) ⌝ }
 {
-    let i = wide(i);
+    let i = i as usize;
     if flip { 63 - i } else { i }
 }
 
@@ -231,7 +239,7 @@ fn way_of(centre: Ends, leaf: Ends, passed: usize, n: usize) -> Way
 // ---- the routes
 
 // The points (x1, y1) and (x2, y2).
-pub fn both_points(x1: u8, y1: u8, x2: u8, y2: u8) -> Points
+pub fn both_points(x1: u32, y1: u32, x2: u32, y2: u32) -> Points
     ensures { λ r. ⌜ r ≡ record { x = record { first = x1; second = x2 }; y = record { first = y1; second = y2 } } ⌝ }
 {
     Points {
@@ -246,37 +254,22 @@ pub fn both_points(x1: u8, y1: u8, x2: u8, y2: u8) -> Points
     }
 }
 
-// The route between a run's points with the first n of some steps.
-fn begin(steps: [u8; 128], n: usize, run: Points) -> Route
-    ensures { λ r. ⌜ r ≡ begun steps n run ⌝ }
+// Writes the steps of a leaf by way of the stretch that it shares with the centre.
+fn leaf_route(centre: Points, leaf: Points, steps: &[u8; 128], s: Stretch, to: &mut [u8])
+    requires { ⌜ (length (now steps) ≡ 128) × (routeTo (now to) leaf .count ≤ length (now to))
+        × ((c : ℕ) × (k : ℕ) × (shares : List ℕ) × (count : ℕ) × Stretched centre leaf c (movesOf (traceOf (now steps) shares count)) k s) ⌝ }
+    ensures { λ r. ⌜ ((c k : ℕ) (shares : List ℕ) (count : ℕ) → Stretched centre leaf c (movesOf (traceOf (now (steps .entry)) shares count)) k s
+        → Laid centre leaf c (movesOf (traceOf (now (steps .entry)) shares count)) k (now (to .exit))) × (length (now (to .exit)) ≡ length (now (to .entry))) ⌝ }
 {
-    let x = run.x;
-    let y = run.y;
-    Route {
-        steps,
-        count: n,
-        start: Vertex {
-            column: wide(x.first),
-            row: wide(y.first),
-        },
-        right: x.first <= x.second,
-        up: y.first <= y.second,
-    }
-}
-
-// The route of a leaf by way of the stretch that it shares with the centre.
-fn leaf_route(centre: Points, leaf: Points, moves: Trace, s: Stretch) -> Route
-    requires { ⌜ ((c : ℕ) × (k : ℕ) × Stretched centre leaf c (movesOf moves) k s) ⌝ }
-    ensures { λ r. ⌜ ((c k : ℕ) → Stretched centre leaf c (movesOf moves) k s → Laid centre leaf c (movesOf moves) k r) ⌝ }
-{
-    let x = way_of(centre.x, leaf.x, s.across, s.wide);
-    let y = way_of(centre.y, leaf.y, s.from - s.across, s.size - s.wide);
-    let from = s.from;
-    let steps = moves.steps;
-    let r = begin([0u8; 128], 0, leaf);
-    let r = leg(r, x.before, y.before);
-    let r = along(r, steps, from, from + s.size, x.forward, y.forward);
-    leg(r, x.after, y.after)
+    let from = s.from as usize;
+    let size = s.size as usize;
+    let across = s.across as usize;
+    let wide = s.wide as usize;
+    let x = way_of(centre.x, leaf.x, across, wide);
+    let y = way_of(centre.y, leaf.y, from - across, size - wide);
+    let at = leg(to, 0, x.before, y.before);
+    let at = along(to, at, steps, from, from + size, x.forward, y.forward);
+    leg(to, at, x.after, y.after);
 }
 
 // How many lines a run passes along an axis.
@@ -284,21 +277,32 @@ fn extent(run: Ends) -> usize
     requires { ⌜ OnLines run ⌝ }
     ensures { λ r. ⌜ (r ≡ gap (run .first) (run .second)) × (r ≤ 63) ⌝ }
 {
-    gap(wide(run.first), wide(run.second))
+    gap(run.first as usize, run.second as usize)
 }
 
-// The route of run k, with the index c of the centre. A leaf that shares nothing goes along the row, then the column.
-pub fn route_of(centre: Points, run: Points, c: usize, k: usize, moves: Trace, s: Stretch) -> Route
-    requires { ⌜ Layable centre centre c (movesOf moves) c × Layable centre run c (movesOf moves) k × Found k (movesOf moves) s ⌝ }
-    ensures { λ r. ⌜ Laid centre run c (movesOf moves) k r ⌝ }
+// Writes the steps of run k, with the index c of the centre. A leaf that shares nothing goes along the row, then the column.
+pub fn route_of(
+    centre: Points,
+    run: Points,
+    c: usize,
+    k: usize,
+    steps: &[u8; 128],
+    count: usize,
+    s: Stretch,
+    to: &mut [u8],
+)
+    requires { ⌜ (length (now steps) ≡ 128) × (routeTo (now to) run .count ≤ length (now to))
+        × ((shares : List ℕ) × Ready centre run c (movesOf (traceOf (now steps) shares count)) k s) ⌝ }
+    ensures { λ r. ⌜ ((shares : List ℕ) → Ready centre run c (movesOf (traceOf (now (steps .entry)) shares count)) k s
+        → Laid centre run c (movesOf (traceOf (now (steps .entry)) shares count)) k (now (to .exit))) × (length (now (to .exit)) ≡ length (now (to .entry))) ⌝ }
 {
     if k == c {
-        let steps = moves.steps;
-        return begin(steps, moves.count, run);
+        forth(to, 0, steps, 0, count);
+        return;
     }
     if s.size == 0 {
-        let r = begin([0u8; 128], 0, run);
-        return leg(r, extent(run.x), extent(run.y));
+        leg(to, 0, extent(run.x), extent(run.y));
+        return;
     }
-    leaf_route(centre, run, moves, s)
+    leaf_route(centre, run, steps, s, to)
 }

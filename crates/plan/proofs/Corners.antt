@@ -7,10 +7,9 @@ use native.Mathlib.Omega.{arith}
 use lib.ListN.{length, length-append, length-map}
 use borrow.Rule.Slice.PartMut.{midOf, putMid}
 use Rattle.network.specs.Plane.{Point}
-use Rattle.route.specs.declared.Route.{Route}
 use Rattle.route.specs.declared.Walker.{Walker}
 use Rattle.route.specs.declared.Stepped.{Stepped}
-use Rattle.route.specs.Route.{OnGrid, numbered, cornersOf, placed}
+use Rattle.route.specs.Route.{Route, OnGrid, numbered, cornersOf, placed}
 use Rattle.route.specs.Walker.{standing, stepped}
 use Rattle.route.specs.Marked.{indexesOf}
 use Rattle.route.proofs.Walk.{On, left, left-some, on-start, on-step, left-turned, left-straight, left-end}
@@ -40,11 +39,11 @@ module _ (columns rows : List ℕ) where
     pub rest : Rest (cornersAt (cornersOf r)) (cornersAt (left r w)) xs ys at
 
   -- at first all corners are left
-  pub writing-all : (r : Route) (xs : List ℕ) → length (r .steps) ≡ 128 → OnGrid numbered r → 9 * length (cornersOf r) ≤ length xs → Writing r xs xs (standing r) 0
-  writing-all r xs f g h =
+  pub writing-all : (r : Route) (xs : List ℕ) → OnGrid numbered r → 9 * length (cornersOf r) ≤ length xs → Writing r xs xs (standing (r .start)) 0
+  writing-all r xs g h =
       record {
-        on = on-start r f g;
-        rest = rw (left-start r f g) (rest-all (cornersAt (cornersOf r)) xs (omega (arith, at-length (cornersOf r))));
+        on = on-start r g;
+        rest = rw (left-start r g) (rest-all (cornersAt (cornersOf r)) xs (omega (arith, at-length (cornersOf r))));
       }
 
   module _ (r : Route) (xs ys : List ℕ) (w : Walker) (at : ℕ) (i : Writing r xs ys w at) where

@@ -10,8 +10,7 @@ use lib.ListN.{length, drop, length-append, length-map}
 use Rattle.network.specs.Lists.{All}
 use Rattle.network.specs.Route.{Route}
 use Rattle.network.proofs.Lists.{all-map}
-use Rattle.route.specs.declared.Route.{Route as Steps}
-use Rattle.route.specs.Route.{OnGrid, numbered, cornersOf, placed}
+use Rattle.route.specs.Route.{Route as Steps, OnGrid, numbered, cornersOf, placed}
 use Rattle.route.proofs.Corners.{corners-few}
 use Rattle.plan.specs.declared.Head.{Head}
 use Rattle.plan.specs.Records.{headRecord, routeRecord, routeSize, cornerRecord, endRecord}

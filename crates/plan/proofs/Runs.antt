@@ -5,13 +5,12 @@ use mathlib.Core.List.{List, [], _∷_, map, flatMap}
 use Prim.Native.Nat.{ℕ, suc, _+_, _-_, _*_, _≤_, _<_}
 use native.Mathlib.Omega.{arith}
 use native.Mathlib.Numerals.{add-one}
-use lib.ListN.{length, getD, drop, length-append, length-map, drop-of-length-le}
+use lib.ListN.{length, getD, drop, length-append, length-map, length-take, length-drop, drop-of-length-le}
 use lib.Seq.{drop-cons}
 use borrow.Rule.Slice.PartMut.{midOf, putMid}
 use Rattle.network.specs.Lists.{All}
 use Rattle.network.specs.Route.{Route}
-use Rattle.route.specs.declared.Route.{Route as Steps}
-use Rattle.route.specs.Route.{OnGrid, numbered, cornersOf, placed}
+use Rattle.route.specs.Route.{Route as Steps, OnGrid, numbered, cornersOf, placed}
 use Rattle.plan.specs.declared.Head.{Head}
 use Rattle.plan.specs.Writers.{entryAt, entriesAt, WroteRuns}
 use Rattle.fields.specs.Bytes.{Wrote}
@@ -74,13 +73,15 @@ module _ (columns rows numbers meets centres : List ℕ) where
       next-left = drop-cons routes i d h ∙ rw e
 
       -- there is room for the next run
-      pub run-fits : (k : ℕ) → k ≡ length (cornersOf route) → at + (9 + 9 * k) ≤ length ys
+      pub run-fits : (k : ℕ) → k ≡ length (cornersOf route) → 9 + 9 * k ≤ length (midOf at (length ys - at) ys)
       unfolding flatMap routeSize
       run-fits k c =
           let t = rw next-left at (r .rest) in
           let x = entryAt columns rows (getD numbers i 0) (getD meets i 0) (getD centres i 0) route in
           omega (
             arith,
+            length-take (length ys - at) (drop at ys),
+            length-drop at ys,
             t .room,
             t .size,
             t .same,

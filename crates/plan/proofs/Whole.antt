@@ -1,4 +1,4 @@
--- The plan of a job's routes: what the code writes is `planBytes` of the routes that its steps draw, no plan exceeds 36,886 bytes, and its bytes
+-- The plan of a job's routes: what the code writes is `planBytes` of the routes that its steps draw, none of them has more than 127 corners, and its bytes
 -- determine its corners.
 use mathlib.Core.Path.{_≡_, refl, sym, ap, _∙_}
 use mathlib.Core.List.{List, [], _∷_, map, map-map}
@@ -11,17 +11,14 @@ use Rattle.network.specs.Grid.{Grid}
 use Rattle.network.specs.Hanan.{hanan}
 use Rattle.network.specs.Route.{Route, Routes}
 use Rattle.network.specs.Corners.{corners}
-use Rattle.network.proofs.Counting.{routes-length}
 use Rattle.network.proofs.Corners.{TwoPoints}
-use Rattle.route.specs.declared.Route.{Route as Steps}
-use Rattle.route.specs.Route.{OnGrid, drawnOf, cornersOf, placed, Tables}
+use Rattle.route.specs.Route.{Route as Steps, OnGrid, drawnOf, cornersOf, placed, Tables}
 use Rattle.route.proofs.Lists.{map-cong}
 use Rattle.route.proofs.Corners.{corners-placed}
 use Rattle.route.proofs.Few.{manhattan-few}
 use Rattle.plan.specs.declared.Head.{Head}
 use Rattle.plan.specs.Plan.{Entry, bookBytes, entriesFrom, headOf, meetsOf, centreFigure, drawnBytes, planBytes}
 use Rattle.plan.specs.Writers.{entriesAt}
-use Rattle.plan.proofs.Length.{book-most, entries-length, entries-all}
 use Rattle.plan.proofs.Determined.{book-corners, book-head}
 use Rattle.plan.specs.Fits.{PointIn, HeadFits}
 
@@ -86,20 +83,10 @@ plan-written job numbers runs columns rows ns ms cs routes head fc fr t a h f =
     (entries-cong (λ i. getD ns i 0) (λ i. getD ms i 0) (λ i. getD cs i 0) (λ i. getD numbers i 0) (meetsOf runs) (centreFigure numbers runs) 0 own
     (λ k l. f k (omega arith))))
 
--- ---- no plan is long
+-- ---- no route is long
 
 -- Manhattan routes have at most 127 corners each
 pub routes-few : (g : Grid) → length (g .columns) ≤ 64 → length (g .rows) ≤ 64 → (runs : List Run) (routes : List Route) → All TwoPoints runs
     → Routes g runs routes → All (λ c. length c ≤ 127) (map corners routes)
 routes-few g h k [] [] two m = tt
 routes-few g h k (run ∷ runs) (route ∷ routes) two m = (omega (arith, manhattan-few g run route (two .0) (m .0)), routes-few g h k runs routes (two .1) (m .1))
-
--- No plan of at most 32 runs on at most 64 columns and 64 rows exceeds 36,886 bytes, whatever Manhattan routes it has.
-pub plan-most : (job : ℕ) (numbers : List ℕ) (runs : List Run) (routes : List Route) → length runs ≤ 32 → length (hanan runs .columns) ≤ 64
-    → length (hanan runs .rows) ≤ 64 → All TwoPoints runs → Routes (hanan runs) runs routes → length (planBytes job numbers runs routes) ≤ 36886
-unfolding planBytes drawnBytes
-plan-most job numbers runs routes n h k two m =
-    let own = map corners routes in
-    book-most (headOf job runs own) (entriesFrom (λ i. getD numbers i 0) (meetsOf runs) (centreFigure numbers runs) 0 own)
-    (omega (arith, entries-length (λ i. getD numbers i 0) (meetsOf runs) (centreFigure numbers runs) 0 own, length-map routes corners, routes-length (hanan runs) runs routes m))
-    (entries-all (λ c. length c ≤ 127) (λ i. getD numbers i 0) (meetsOf runs) (centreFigure numbers runs) 0 own (routes-few (hanan runs) h k runs routes two m))

@@ -4,8 +4,7 @@ use mathlib.Core.Bool.{true}
 use mathlib.Core.List.{List, map, flatMap}
 use Prim.Native.Nat.{ℕ, _≤_}
 use lib.ListN.{getD}
-use Rattle.route.specs.declared.Route.{Route as Steps}
-use Rattle.route.specs.Route.{cornersOf, placed}
+use Rattle.route.specs.Route.{Route as Steps, cornersOf, placed}
 use Rattle.plan.specs.declared.Written.{Written}
 use Rattle.fields.specs.Bytes.{Wrote}
 use Rattle.plan.specs.Plan.{Entry, entryBytes, totalCorners, entriesFrom}

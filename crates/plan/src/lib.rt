@@ -1,5 +1,5 @@
 // The plan book: each record is written into the rest of the plan buffer behind the record before it. Only the kinds of document 02, C-16, are written.
-use route::Route;
+use route::Track;
 use route::Vertex;
 use route::Walker;
 ghost use mathlib.Core.Path.{_≡_};
@@ -7,9 +7,9 @@ ghost use mathlib.Core.Bool.{true};
 ghost use mathlib.Core.List.{map, flatMap};
 ghost use Prim.Native.Nat.{_+_, _*_, _<_, _≤_};
 ghost use lib.ListN.{length, take};
-ghost use Rattle.network.specs.Lists.{All};
 ghost use Rattle.fields.specs.Bytes.{Wrote};
-ghost use Rattle.route.specs.Route.{OnGrid, numbered, cornersOf, placed};
+ghost use Rattle.route.specs.Route.{routeBy, OnGrid, numbered, cornersOf, cornerCount, placed};
+ghost use Rattle.route.specs.Stored.{tracksOf, routesIn, Stored};
 ghost use Rattle.route.specs.Marked.{indexesOf};
 ghost use Rattle.plan.specs.Writers.{entryAt, entriesAt, WroteRuns};
 ghost use Rattle.plan.specs.Records.{headRecord, routeRecord, cornerRecord};
@@ -74,15 +74,22 @@ fn write_corner(out: &mut [u8], v: Vertex, columns: &[u32; 64], rows: &[u32; 64]
 }
 
 // The corner records of a route.
-fn write_corners(out: &mut [u8], route: Route, columns: &[u32; 64], rows: &[u32; 64]) -> usize
-    requires { ⌜ OnGrid numbered route × (9 * length (cornersOf route) ≤ length (now out)) ⌝ }
-    ensures { λ n. ⌜ Wrote (flatMap cornerRecord (map (placed (now (columns .entry)) (now (rows .entry))) (cornersOf route)))
+fn write_corners(
+    out: &mut [u8],
+    track: Track,
+    steps: &[u8],
+    columns: &[u32; 64],
+    rows: &[u32; 64],
+) -> usize
+    requires { ⌜ OnGrid numbered (routeBy (now steps) track) × (9 * cornerCount (routeBy (now steps) track) ≤ length (now out)) ⌝ }
+    ensures { λ n. ⌜ Wrote
+        (flatMap cornerRecord (map (placed (now (columns .entry)) (now (rows .entry))) (cornersOf (routeBy (now (steps .entry)) track))))
         (now (out .entry)) (now (out .exit)) n × (n ≤ 1143) ⌝ }
 {
-    let mut w = Walker::start(route);
+    let mut w = Walker::start(track);
     let mut at: usize = 0;
-    while w.at < route.count {
-        let s = w.step(route);
+    while w.at < track.count {
+        let s = w.step(track, steps);
         if s.turned {
             at += write_corner(&mut out[at..], w.here, columns, rows);
         }
@@ -98,55 +105,73 @@ fn write_run(
     meets: u32,
     centre: u32,
     corners: usize,
-    route: Route,
+    track: Track,
+    steps: &[u8],
     columns: &[u32; 64],
     rows: &[u32; 64],
 ) -> usize
-    requires { ⌜ OnGrid numbered route × (corners ≡ length (cornersOf route)) × (9 + 9 * corners ≤ length (now out)) ⌝ }
-    ensures { λ n. ⌜ Wrote (entryBytes true (entryAt (now (columns .entry)) (now (rows .entry)) number meets centre route))
+    requires { ⌜ OnGrid numbered (routeBy (now steps) track) × (corners ≡ cornerCount (routeBy (now steps) track))
+        × (9 + 9 * corners ≤ length (now out)) ⌝ }
+    ensures { λ n. ⌜ Wrote
+        (entryBytes true (entryAt (now (columns .entry)) (now (rows .entry)) number meets centre (routeBy (now (steps .entry)) track)))
         (now (out .entry)) (now (out .exit)) n × (n ≤ 1152) ⌝ }
 {
     let at = write_route(out, number, meets, corners as u32, centre);
-    at + write_corners(&mut out[at..], route, columns, rows)
+    at + write_corners(&mut out[at..], track, steps, columns, rows)
 }
 
-// The first `count` runs, one behind the other.
+// The first `count` runs, one behind the other. The steps of route k stand in `routes` from k * stride on, it leads from (x1[k], y1[k]) to
+// (x2[k], y2[k]), and has corners[k] corners.
 fn write_runs(
     out: &mut [u8],
     numbers: &[u32; 32],
     meets: &[u32; 32],
     centres: &[u32; 32],
-    routes: [Route; 32],
+    corners: &[usize; 32],
+    routes: &[u8],
+    stride: usize,
+    x1: &[u32; 32],
+    y1: &[u32; 32],
+    x2: &[u32; 32],
+    y2: &[u32; 32],
     count: usize,
     columns: &[u32; 64],
     rows: &[u32; 64],
 ) -> Written
-    requires { ⌜ (count ≤ 32) × All (OnGrid numbered) (take count routes)
-        × (length (flatMap (entryBytes true) (entriesAt (now columns) (now rows) (now numbers) (now meets) (now centres) (take count routes)))
-        ≤ length (now out)) ⌝ }
+    requires { ⌜ Stored (now routes) stride (tracksOf (now x1) (now y1) (now x2) (now y2)) count
+        × (take count (now corners) ≡ map cornerCount (routesIn (now routes) stride (tracksOf (now x1) (now y1) (now x2) (now y2)) count))
+        × (length (flatMap (entryBytes true) (entriesAt (now columns) (now rows) (now numbers) (now meets) (now centres)
+        (routesIn (now routes) stride (tracksOf (now x1) (now y1) (now x2) (now y2)) count))) ≤ length (now out)) ⌝ }
     ensures { λ w. ⌜ WroteRuns
-        (entriesAt (now (columns .entry)) (now (rows .entry)) (now (numbers .entry)) (now (meets .entry)) (now (centres .entry)) (take count routes))
+        (entriesAt (now (columns .entry)) (now (rows .entry)) (now (numbers .entry)) (now (meets .entry)) (now (centres .entry))
+        (routesIn (now (routes .entry)) stride (tracksOf (now (x1 .entry)) (now (y1 .entry)) (now (x2 .entry)) (now (y2 .entry))) count))
         (now (out .entry)) (now (out .exit)) w ⌝ }
 {
     let mut at: usize = 0;
-    let mut corners: usize = 0;
+    let mut all: usize = 0;
     let mut i: usize = 0;
     while i < count {
-        let n = route::corner_count(routes[i]);
+        let n = corners[i];
+        let track = route::track_of(x1[i], y1[i], x2[i], y2[i]);
+        let from = i * stride;
         at += write_run(
             &mut out[at..],
             numbers[i],
             meets[i],
             centres[i],
             n,
-            routes[i],
+            track,
+            &routes[from..],
             columns,
             rows,
         );
-        corners += n;
+        all += n;
         i += 1;
     }
-    Written { bytes: at, corners }
+    Written {
+        bytes: at,
+        corners: all,
+    }
 }
 
 // The whole plan, and its length.
@@ -156,17 +181,24 @@ pub fn write_plan(
     numbers: &[u32; 32],
     meets: &[u32; 32],
     centres: &[u32; 32],
-    routes: [Route; 32],
+    corners: &[usize; 32],
+    routes: &[u8],
+    stride: usize,
+    x1: &[u32; 32],
+    y1: &[u32; 32],
+    x2: &[u32; 32],
+    y2: &[u32; 32],
     count: usize,
     columns: &[u32; 64],
     rows: &[u32; 64],
 ) -> usize
-    requires { ⌜ (head .grouped ≡ true) × (count ≤ 32) × All (OnGrid numbered) (take count routes)
-        × (length (bookBytes head (entriesAt (now columns) (now rows) (now numbers) (now meets) (now centres) (take count routes)))
-        ≤ length (now out)) ⌝ }
+    requires { ⌜ (head .grouped ≡ true) × Stored (now routes) stride (tracksOf (now x1) (now y1) (now x2) (now y2)) count
+        × (take count (now corners) ≡ map cornerCount (routesIn (now routes) stride (tracksOf (now x1) (now y1) (now x2) (now y2)) count))
+        × (length (bookBytes head (entriesAt (now columns) (now rows) (now numbers) (now meets) (now centres)
+        (routesIn (now routes) stride (tracksOf (now x1) (now y1) (now x2) (now y2)) count))) ≤ length (now out)) ⌝ }
     ensures { λ n. ⌜ Wrote
-        (bookBytes head
-        (entriesAt (now (columns .entry)) (now (rows .entry)) (now (numbers .entry)) (now (meets .entry)) (now (centres .entry)) (take count routes)))
+        (bookBytes head (entriesAt (now (columns .entry)) (now (rows .entry)) (now (numbers .entry)) (now (meets .entry)) (now (centres .entry))
+        (routesIn (now (routes .entry)) stride (tracksOf (now (x1 .entry)) (now (y1 .entry)) (now (x2 .entry)) (now (y2 .entry))) count)))
         (now (out .entry)) (now (out .exit)) n × (n ≤ 36886) ⌝ }
 {
     let start = write_head(out, head);
@@ -175,7 +207,13 @@ pub fn write_plan(
         numbers,
         meets,
         centres,
+        corners,
         routes,
+        stride,
+        x1,
+        y1,
+        x2,
+        y2,
         count,
         columns,
         rows,

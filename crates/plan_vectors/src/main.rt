@@ -1,17 +1,28 @@
 // Prints plans of a few routes: each route's corners in line indexes, the pits, and the bytes that are written into dirty buffers.
 use libc::STDOUT_FILENO;
 use plan::Head;
-use route::Route;
+use route::Track;
 use route::Vertex;
 use route::Walker;
 ghost use mathlib.Core.Path.{_≡_};
 ghost use mathlib.Core.Bool.{true};
+ghost use mathlib.Core.List.{map};
 ghost use Prim.Native.Nat.{_<_, _≤_};
 ghost use lib.ListN.{length, take};
-ghost use Rattle.network.specs.Lists.{All};
 ghost use Rattle.network.specs.Graph.{below};
 ghost use Rattle.network.specs.Steps.{Fits};
-ghost use Rattle.route.specs.Route.{lane, OnGrid, numbered};
+ghost use Rattle.route.specs.Route.{routeBy, lane, OnGrid, numbered, cornerCount};
+ghost use Rattle.route.specs.Stored.{tracksOf, routesIn, Stored};
+
+// Routes from (x1[k], y1[k]) to (x2[k], y2[k]), with room for 128 steps each.
+struct Routes {
+    steps: [u8; 4096],
+    x1: [u32; 32],
+    y1: [u32; 32],
+    x2: [u32; 32],
+    y2: [u32; 32],
+    count: usize,
+}
 
 fn print(text: &[u8]) {
     io::write_all(STDOUT_FILENO, text);
@@ -27,20 +38,49 @@ fn step_of(letter: u8) -> u8 {
     if letter == b'r' { 0 } else { letter }
 }
 
-fn route_of(letters: &[u8], column: usize, row: usize, right: bool, up: bool) -> Route {
-    let mut steps = [0u8; 128];
-    let count = hex::least(letters.len(), 128);
+fn no_routes() -> Routes {
+    Routes {
+        steps: [0u8; 4096],
+        x1: [0u32; 32],
+        y1: [0u32; 32],
+        x2: [0u32; 32],
+        y2: [0u32; 32],
+        count: 0,
+    }
+}
+
+// One more route, where there is room.
+fn add(routes: Routes, letters: &[u8], x1: u32, y1: u32, x2: u32, y2: u32) -> Routes {
+    let k = routes.count;
+    let n = letters.len();
+    if k >= 32 {
+        return routes;
+    }
+    if n > 128 {
+        return routes;
+    }
+    let mut steps = routes.steps;
     let mut i: usize = 0;
-    while i < count {
-        steps[i] = step_of(letters[i]);
+    while i < n {
+        steps[k * 128 + i] = step_of(letters[i]);
         i += 1;
     }
-    Route {
+    let mut from_columns = routes.x1;
+    let mut from_rows = routes.y1;
+    let mut to_columns = routes.x2;
+    let mut to_rows = routes.y2;
+    from_columns[k] = x1;
+    from_rows[k] = y1;
+    to_columns[k] = x2;
+    to_rows[k] = y2;
+    let count = k + 1;
+    Routes {
         steps,
+        x1: from_columns,
+        y1: from_rows,
+        x2: to_columns,
+        y2: to_rows,
         count,
-        start: Vertex { column, row },
-        right,
-        up,
     }
 }
 
@@ -58,31 +98,47 @@ fn fits(rises: bool, line: usize, steps: usize) -> bool
 }
 
 // Whether a route stays on 64 columns and 64 rows.
-fn on_grid(route: Route) -> bool
-    ensures { λ r. ⌜ (r ≡ true → OnGrid numbered route) ⌝ }
+fn on_grid(track: Track, steps: &[u8]) -> bool
+    ensures { λ r. ⌜ (r ≡ true → OnGrid numbered (routeBy (now (steps .entry)) track)) ⌝ }
 {
-    let count = route.count;
-    if count > 128 {
+    let count = track.count;
+    if count > steps.len() {
         return false;
     }
     let mut across: usize = 0;
     let mut i: usize = 0;
     while i < count {
-        if route.steps[i] == 0 {
+        if steps[i] == 0 {
             across += 1;
         }
         i += 1;
     }
-    fits(route.right, route.start.column, across) & fits(route.up, route.start.row, count - across)
+    fits(track.right, track.start.column, across) & fits(track.up, track.start.row, count - across)
 }
 
-fn all_on_grid(routes: [Route; 32], count: usize) -> bool
-    requires { ⌜ count ≤ 32 ⌝ }
-    ensures { λ r. ⌜ (r ≡ true → All (OnGrid numbered) (take count routes)) ⌝ }
+// Whether at most 32 routes do, each of 128 bytes.
+fn all_on_grid(
+    steps: &[u8],
+    x1: &[u32; 32],
+    y1: &[u32; 32],
+    x2: &[u32; 32],
+    y2: &[u32; 32],
+    count: usize,
+) -> bool
+    ensures { λ r. ⌜ (r ≡ true
+        → Stored (now (steps .entry)) 128 (tracksOf (now (x1 .entry)) (now (y1 .entry)) (now (x2 .entry)) (now (y2 .entry))) count) ⌝ }
 {
+    if count > 32 {
+        return false;
+    }
+    if steps.len() < 4096 {
+        return false;
+    }
     let mut i: usize = 0;
     while i < count {
-        if !on_grid(routes[i]) {
+        let track = route::track_of(x1[i], y1[i], x2[i], y2[i]);
+        let from = i * 128;
+        if !on_grid(track, &steps[from..]) {
             return false;
         }
         i += 1;
@@ -97,15 +153,15 @@ fn print_corner(v: Vertex) {
 }
 
 // The corners of a route, as the walker meets them.
-fn print_corners(route: Route)
-    requires { ⌜ OnGrid numbered route ⌝ }
+fn print_corners(track: Track, steps: &[u8], corners: usize)
+    requires { ⌜ OnGrid numbered (routeBy (now steps) track) ⌝ }
 {
     print(b"corners");
-    print_number(route::corner_count(route) as u64);
+    print_number(corners as u64);
     print(b":");
-    let mut w = Walker::start(route);
-    while w.at < route.count {
-        let s = w.step(route);
+    let mut w = Walker::start(track);
+    while w.at < track.count {
+        let s = w.step(track, steps);
         if s.turned {
             print_corner(w.here);
         }
@@ -116,13 +172,23 @@ fn print_corners(route: Route)
 }
 
 // The corners of the first three routes.
-fn print_routes(routes: [Route; 32], count: usize)
-    requires { ⌜ (count ≤ 32) × All (OnGrid numbered) (take count routes) ⌝ }
+fn print_routes(
+    steps: &[u8],
+    x1: &[u32; 32],
+    y1: &[u32; 32],
+    x2: &[u32; 32],
+    y2: &[u32; 32],
+    count: usize,
+    corners: &[usize; 32],
+)
+    requires { ⌜ Stored (now steps) 128 (tracksOf (now x1) (now y1) (now x2) (now y2)) count ⌝ }
 {
     let n = hex::least(count, 3);
     let mut i: usize = 0;
     while i < n {
-        print_corners(routes[i]);
+        let track = route::track_of(x1[i], y1[i], x2[i], y2[i]);
+        let from = i * 128;
+        print_corners(track, &steps[from..], corners[i]);
         i += 1;
     }
 }
@@ -178,49 +244,62 @@ fn print_plan(out: &[u8], n: usize)
 }
 
 // The corners and the pits of routes.
-fn print_pits(routes: [Route; 32], count: usize) -> usize
-    requires { ⌜ (count ≤ 32) × All (OnGrid numbered) (take count routes) ⌝ }
-    ensures { λ n. ⌜ n ≤ 4064 ⌝ }
+fn print_pits(
+    steps: &[u8],
+    x1: &[u32; 32],
+    y1: &[u32; 32],
+    x2: &[u32; 32],
+    y2: &[u32; 32],
+    count: usize,
+    corners: &mut [usize; 32],
+) -> usize
+    requires { ⌜ Stored (now steps) 128 (tracksOf (now x1) (now y1) (now x2) (now y2)) count × (length (now corners) ≡ 32) ⌝ }
+    ensures { λ n. ⌜ (n ≤ 4064) × (length (now (corners .exit)) ≡ 32)
+        × (take count (now (corners .exit)) ≡ map cornerCount
+        (routesIn (now (steps .entry)) 128 (tracksOf (now (x1 .entry)) (now (y1 .entry)) (now (x2 .entry)) (now (y2 .entry))) count)) ⌝ }
 {
-    print_routes(routes, count);
-    let pits = route::pits(routes, count);
+    let mut marks = [0u8; 4096];
+    let pits = route::mark_routes(steps, 128, x1, y1, x2, y2, count, &mut marks, 64, corners);
+    print_routes(steps, x1, y1, x2, y2, count, &*corners);
     print(b"pits");
     print_number(pits as u64);
     print(b"\n");
     pits
 }
 
-// Prints the corners and the pits of routes, and their plan in a buffer of 36,886 bytes and in one of 40,960.
-fn show(
+// Prints the plan in a buffer of 36,886 bytes and in one of 40,960.
+fn print_plans(
     head: Head,
     numbers: &[u32; 32],
     meets: &[u32; 32],
     centres: &[u32; 32],
-    routes: [Route; 32],
+    corners: &[usize; 32],
+    steps: &[u8],
+    x1: &[u32; 32],
+    y1: &[u32; 32],
+    x2: &[u32; 32],
+    y2: &[u32; 32],
     count: usize,
     columns: &[u32; 64],
     rows: &[u32; 64],
 )
-    requires { ⌜ head .grouped ≡ true ⌝ }
+    requires { ⌜ (head .grouped ≡ true) × Stored (now steps) 128 (tracksOf (now x1) (now y1) (now x2) (now y2)) count
+        × (take count (now corners) ≡ map cornerCount (routesIn (now steps) 128 (tracksOf (now x1) (now y1) (now x2) (now y2)) count)) ⌝ }
 {
-    if count > 32 {
-        return;
-    }
-    if !all_on_grid(routes, count) {
-        print(b"off the grid\n");
-        return;
-    }
-    let pits = print_pits(routes, count);
-    let mut figures = head;
-    figures.pits = pits as u32;
     let mut small = [0x5Au8; 36886];
     let n = plan::write_plan(
         &mut small,
-        figures,
+        head,
         numbers,
         meets,
         centres,
-        routes,
+        corners,
+        steps,
+        128,
+        x1,
+        y1,
+        x2,
+        y2,
         count,
         columns,
         rows,
@@ -229,16 +308,111 @@ fn show(
     let mut large = [0xA5u8; 40960];
     let m = plan::write_plan(
         &mut large,
-        figures,
+        head,
         numbers,
         meets,
         centres,
-        routes,
+        corners,
+        steps,
+        128,
+        x1,
+        y1,
+        x2,
+        y2,
         count,
         columns,
         rows,
     );
     print_plan(&large, m);
+}
+
+// Prints the corners, the pits and the plan of routes that are on the grid.
+fn show_stored(
+    head: Head,
+    numbers: &[u32; 32],
+    meets: &[u32; 32],
+    centres: &[u32; 32],
+    steps: &[u8],
+    x1: &[u32; 32],
+    y1: &[u32; 32],
+    x2: &[u32; 32],
+    y2: &[u32; 32],
+    count: usize,
+    columns: &[u32; 64],
+    rows: &[u32; 64],
+)
+    requires { ⌜ head .grouped ≡ true ⌝ }
+{
+    if !all_on_grid(steps, x1, y1, x2, y2, count) {
+        print(b"off the grid\n");
+        return;
+    }
+    let mut corners = [0usize; 32];
+    let pits = print_pits(steps, x1, y1, x2, y2, count, &mut corners);
+    let mut figures = head;
+    figures.pits = pits as u32;
+    print_plans(
+        figures,
+        numbers,
+        meets,
+        centres,
+        &corners,
+        steps,
+        x1,
+        y1,
+        x2,
+        y2,
+        count,
+        columns,
+        rows,
+    );
+}
+
+// The same of routes that are held in one struct.
+fn show(
+    head: Head,
+    numbers: &[u32; 32],
+    meets: &[u32; 32],
+    centres: &[u32; 32],
+    routes: Routes,
+    columns: &[u32; 64],
+    rows: &[u32; 64],
+)
+    requires { ⌜ head .grouped ≡ true ⌝ }
+{
+    let steps = routes.steps;
+    let x1 = routes.x1;
+    let y1 = routes.y1;
+    let x2 = routes.x2;
+    let y2 = routes.y2;
+    show_stored(
+        head,
+        numbers,
+        meets,
+        centres,
+        &steps,
+        &x1,
+        &y1,
+        &x2,
+        &y2,
+        routes.count,
+        columns,
+        rows,
+    );
+}
+
+// Prints the corners and the pits alone.
+fn show_pits(routes: Routes) {
+    let count = routes.count;
+    let steps = routes.steps;
+    let x1 = routes.x1;
+    let y1 = routes.y1;
+    let x2 = routes.x2;
+    let y2 = routes.y2;
+    if all_on_grid(&steps, &x1, &y1, &x2, &y2, count) {
+        let mut corners = [0usize; 32];
+        let _ = print_pits(&steps, &x1, &y1, &x2, &y2, count, &mut corners);
+    }
 }
 
 // Document 01's job 7.
@@ -260,9 +434,9 @@ fn job_seven() {
     let mut meets = [1u32; 32];
     meets[0] = 2;
     let centres = [1u32; 32];
-    let mut routes = [route_of(b"crrcc", 0, 0, true, true); 32];
-    routes[1] = route_of(b"rr", 0, 1, true, true);
-    routes[2] = route_of(b"cc", 1, 2, true, true);
+    let first = add(no_routes(), b"crrcc", 0, 0, 2, 3);
+    let second = add(first, b"rr", 0, 1, 2, 1);
+    let routes = add(second, b"cc", 1, 2, 1, 4);
     let head = Head {
         grouped: true,
         job: 7,
@@ -272,7 +446,7 @@ fn job_seven() {
         pits: 0,
         last: 1,
     };
-    show(head, &numbers, &meets, &centres, routes, 3, &columns, &rows);
+    show(head, &numbers, &meets, &centres, routes, &columns, &rows);
 }
 
 // One run, from end to end of the ranges.
@@ -282,7 +456,7 @@ fn one_run() {
     let rows = [2000000u32; 64];
     let numbers = [9999u32; 32];
     let meets = [0u32; 32];
-    let routes = [route_of(b"r", 0, 0, true, true); 32];
+    let routes = add(no_routes(), b"r", 0, 0, 1, 0);
     let head = Head {
         grouped: true,
         job: 4294967295,
@@ -292,7 +466,7 @@ fn one_run() {
         pits: 0,
         last: 1,
     };
-    show(head, &numbers, &meets, &numbers, routes, 1, &columns, &rows);
+    show(head, &numbers, &meets, &numbers, routes, &columns, &rows);
 }
 
 // A job without runs: a head and an end.
@@ -301,7 +475,7 @@ fn no_runs() {
     let rows = [0u32; 64];
     let numbers = [0u32; 32];
     let meets = [0u32; 32];
-    let routes = [route_of(b"", 0, 0, true, true); 32];
+    let routes = no_routes();
     let head = Head {
         grouped: true,
         job: 7,
@@ -311,7 +485,7 @@ fn no_runs() {
         pits: 0,
         last: 0,
     };
-    show(head, &numbers, &meets, &numbers, routes, 0, &columns, &rows);
+    show(head, &numbers, &meets, &numbers, routes, &columns, &rows);
 }
 
 // Three runs to the left, downwards and both, with a turn at every vertex and with none, in two groups; the upper two bytes of figures are left out.
@@ -334,9 +508,9 @@ fn all_ways() {
     meets[1] = 1;
     let mut centres = [9998u32; 32];
     centres[1] = 65836;
-    let mut routes = [route_of(b"rcrcrcr", 4, 3, false, false); 32];
-    routes[1] = route_of(b"cccrrrr", 0, 3, true, false);
-    routes[2] = route_of(b"rrccrcr", 4, 0, false, true);
+    let first = add(no_routes(), b"rcrcrcr", 4, 3, 0, 0);
+    let second = add(first, b"cccrrrr", 0, 3, 4, 0);
+    let routes = add(second, b"rrccrcr", 4, 0, 0, 3);
     let head = Head {
         grouped: true,
         job: 65536,
@@ -346,7 +520,7 @@ fn all_ways() {
         pits: 0,
         last: 65538,
     };
-    show(head, &numbers, &meets, &centres, routes, 3, &columns, &rows);
+    show(head, &numbers, &meets, &centres, routes, &columns, &rows);
 }
 
 fn counting(from: u32) -> [u32; 32]
@@ -384,24 +558,27 @@ fn longest() {
     let numbers = counting(9968);
     let meets = [31u32; 32];
     let centres = [9968u32; 32];
-    let mut routes = [route_of(
-        b"rcrcrcrcrcrcrcrcrcrcrcrcrcrcrcrcrcrcrcrcrcrcrcrcrcrcrcrcrcrcrcrcrcrcrcrcrcrcrcrcrcrcrcrcrcrcrcrcrcrcrcrcrcrcrcrcrcrcrcrcrcrcrc",
-        0,
-        0,
-        true,
-        true,
-    ); 32];
-    let other = route_of(
-        b"crcrcrcrcrcrcrcrcrcrcrcrcrcrcrcrcrcrcrcrcrcrcrcrcrcrcrcrcrcrcrcrcrcrcrcrcrcrcrcrcrcrcrcrcrcrcrcrcrcrcrcrcrcrcrcrcrcrcrcrcrcrcr",
-        0,
-        0,
-        true,
-        true,
-    );
-    let mut i: usize = 1;
-    while i < 32 {
-        routes[i] = other;
-        i += 2;
+    let mut routes = no_routes();
+    let mut i: usize = 0;
+    while i < 16 {
+        let one = add(
+            routes,
+            b"rcrcrcrcrcrcrcrcrcrcrcrcrcrcrcrcrcrcrcrcrcrcrcrcrcrcrcrcrcrcrcrcrcrcrcrcrcrcrcrcrcrcrcrcrcrcrcrcrcrcrcrcrcrcrcrcrcrcrcrcrcrcrc",
+            0,
+            0,
+            63,
+            63,
+        );
+        let two = add(
+            one,
+            b"crcrcrcrcrcrcrcrcrcrcrcrcrcrcrcrcrcrcrcrcrcrcrcrcrcrcrcrcrcrcrcrcrcrcrcrcrcrcrcrcrcrcrcrcrcrcrcrcrcrcrcrcrcrcrcrcrcrcrcrcrcrcr",
+            0,
+            0,
+            63,
+            63,
+        );
+        routes = two;
+        i += 1;
     }
     let head = Head {
         grouped: true,
@@ -412,40 +589,29 @@ fn longest() {
         pits: 0,
         last: 1,
     };
-    show(
-        head,
-        &numbers,
-        &meets,
-        &centres,
-        routes,
-        32,
-        &columns,
-        &rows,
-    );
+    show(head, &numbers, &meets, &centres, routes, &columns, &rows);
 }
 
 // The pits of a route along row 2, of one down column 3, and of a third.
-fn cross(third: Route) {
-    let mut routes = [route_of(b"rrrrrr", 0, 2, true, true); 32];
-    routes[1] = route_of(b"ccccc", 3, 5, true, false);
-    routes[2] = third;
-    if all_on_grid(routes, 3) {
-        let _ = print_pits(routes, 3);
-    }
+fn cross(letters: &[u8], x1: u32, y1: u32, x2: u32, y2: u32) {
+    let first = add(no_routes(), b"rrrrrr", 0, 2, 6, 2);
+    let second = add(first, b"ccccc", 3, 5, 3, 0);
+    let routes = add(second, letters, x1, y1, x2, y2);
+    show_pits(routes);
 }
 
 // Where cables cross. The third keeps away; it passes the crossing along the row, along the column, and back along the row; it ends there, starts
 // there, turns there; it passes the crossing between two turns; it crosses both beside it.
 fn crossings() {
-    cross(route_of(b"cc", 6, 4, true, true));
-    cross(route_of(b"rrr", 2, 2, true, true));
-    cross(route_of(b"cccccc", 3, 1, true, true));
-    cross(route_of(b"rrrr", 5, 2, false, true));
-    cross(route_of(b"rrr", 0, 2, true, true));
-    cross(route_of(b"cc", 3, 2, true, false));
-    cross(route_of(b"crr", 3, 1, true, true));
-    cross(route_of(b"crrrrc", 1, 1, true, true));
-    cross(route_of(b"rrcc", 2, 1, true, true));
+    cross(b"cc", 6, 4, 6, 6);
+    cross(b"rrr", 2, 2, 5, 2);
+    cross(b"cccccc", 3, 1, 3, 7);
+    cross(b"rrrr", 5, 2, 1, 2);
+    cross(b"rrr", 0, 2, 3, 2);
+    cross(b"cc", 3, 2, 3, 0);
+    cross(b"crr", 3, 1, 5, 2);
+    cross(b"crrrrc", 1, 1, 5, 3);
+    cross(b"rrcc", 2, 1, 4, 3);
 }
 
 fn main() {

@@ -4,7 +4,7 @@
 -- A job that passes the tests of the reader is well formed, so reading its bytes gives it back and the verdict is by its groups; a job that is refused is read. No way to lay its
 -- routes is shorter than the trench figure, and those of that length pass what else is given (pits; for job 7 the corners themselves): so do all
 -- least plans. The other figures follow from the corners and the runs.
-use mathlib.Core.Path.{_≡_, refl, ap, ap₂, _∙_, subst}
+use mathlib.Core.Path.{_≡_, refl, sym, ap, ap₂, _∙_, subst}
 use mathlib.Core.Bool.{Bool, true, false, cond, not, _&&_, false≢true}
 use mathlib.Core.List.{List, [], _∷_, _++_, map, flatten, flatMap}
 use Prim.Native.Nat.{ℕ, _+_, _^_, _≤_, _<_}
@@ -40,12 +40,14 @@ use Rattle.job.proofs.Written.{behind-head, written-read}
 use Rattle.plan.specs.declared.Head.{Head}
 use Rattle.plan.specs.Records.{headRecord, endRecord}
 use Rattle.plan.specs.Plan.{Entry, bookBytes, entriesFrom, headOf, meetsOf, centreFigure, drawnBytes, planBytes}
-use Rattle.planner.specs.Verdict.{areStars, judged, verdict}
+use Rattle.planner.specs.Verdict.{foretoldBy, forecastOf, areStars, judged, verdict}
 use Rattle.planner.specs.Call.{runsOf, numbersOf, Said, gives}
+use Rattle.planner.specs.declared.Foretold.the-variants.{Needs}
+use Rattle.planner.specs.Forecast.{touching, wordsFor, bytesFor}
 use Rattle.planner.specs.Figures.{planHead, planEntries}
 use Rattle.planner.specs.Outcome.{Outcome}
-use Rattle.planner.specs.Examples.{Figures, refused-with, figures, figures-pits, Example, examples, HasVerdict, LeastOf, HoldsOf, Holds, job7Runs, job7Head, job7Entries, blankHead, HasOnePlan}
-use Rattle.planner.proofs.Verdicts.{enough}
+use Rattle.planner.specs.Examples.{Figures, refused-with, figures, figures-pits, Example, examples, IsAccepted, LeastOf, HoldsOf, Holds, job7Runs, job7Head, job7Entries, blankHead, HasOnePlan}
+use Rattle.planner.proofs.Verdicts.{enough, few-read}
 use Rattle.planner.proofs.Fits.{runs-apart}
 
 -- ---- well formed, by a test
@@ -77,10 +79,11 @@ well-true number runs f h =
     rising-well-formed number runs f (leb-true (length runs) 32 most) (rises-true 0 runs up)
 
 -- a well-formed job whose groups are stars is accepted
-accepted-by : (number : ℕ) (runs : List Read) → WellFormed number runs → areStars (runsOf runs) ≡ true → HasVerdict number runs (accepted number runs)
+accepted-by : (number : ℕ) (runs : List Read) → WellFormed number runs → areStars (runsOf runs) ≡ true → IsAccepted number runs
 unfolding judged
 accepted-by number runs w e work out h k =
-    enough (bytesOf number runs) work out h k ∙ ap judged (written-read number runs w) ∙ ap (λ t. cond t (accepted number runs) (refused NoStar)) e
+    let r = written-read number runs w in
+    enough (bytesOf number runs) number runs r work out h k ∙ ap judged r ∙ ap (λ t. cond t (accepted number runs) (refused NoStar)) e
 
 -- ---- a row, by a test
 
@@ -95,9 +98,18 @@ isRefused : Refusal → Parsed → Bool
 isRefused x (accepted number runs) = false
 isRefused x (refused y) = eqb (refusalNumber y) (refusalNumber x) && eqb (refusalPlace y) (refusalPlace x)
 
+-- what is read has at most 32 runs
+isFew : Parsed → Bool
+isFew (accepted number runs) = leb (length runs) 32
+isFew (refused x) = true
+
+-- what is read of the job with this number
+readOf : ℕ → List Read → Parsed
+readOf number runs = readFrom 33 number 5 0 0 (runsBytes runs ++ (0x5A ∷ bytes2 (length runs)))
+
 -- the test of what a row says of the job with this number: of a refusal, that reading on behind the head comes to it
 testOf : ℕ → List Read → Figures → Bool
-testOf number runs (refused-with x) = isRefused x (judged (readFrom 33 number 5 0 0 (runsBytes runs ++ (0x5A ∷ bytes2 (length runs)))))
+testOf number runs (refused-with x) = isFew (readOf number runs) && isRefused x (judged (readOf number runs))
 testOf number runs (figures trench saved) = wellTest runs && planTest runs trench saved (λ c. true)
 testOf number runs (figures-pits trench saved pits) = wellTest runs && planTest runs trench saved (λ c. eqb (pitsOf c) pits)
 
@@ -130,11 +142,19 @@ refused-true x (refused y) h =
     let (n, p) = and-split (eqb (refusalNumber y) (refusalNumber x)) _ h in
     ap refused (same-refusal y x (eqb-true _ _ n) (eqb-true _ _ p))
 
+-- what passes the test has at most 32
+few-true : (p : Parsed) → isFew p ≡ true → (number : ℕ) (runs : List Read) → p ≡ accepted number runs → length runs ≤ 32
+unfolding isFew
+few-true (accepted m rs) h number runs e = let q : rs ≡ runs = cc in subst (λ l. length l ≤ 32) q (leb-true (length rs) 32 h)
+few-true (refused x) h number runs e = absurd (let z : _≡_ {A = ℕ} 0 1 = cc in omega arith)
+
 -- a row that passes its test under every number holds
 sound : (runs : List Read) (o : Figures) → ((number : ℕ) → testOf number runs o ≡ true) → HoldsOf runs o
-unfolding testOf
+unfolding testOf readOf
 sound runs (refused-with x) h = λ number f work out words bytes.
-    enough (bytesOf number runs) work out words bytes ∙ ap judged (behind-head number runs f) ∙ refused-true x _ (h number)
+    let r = behind-head number runs f in
+    let (l, t) = and-split (isFew (readOf number runs)) _ (h number) in
+    few-read (bytesOf number runs) work out (λ m rs e. few-true (readOf number runs) l m rs (sym r ∙ e)) words bytes ∙ ap judged r ∙ refused-true x _ t
 sound runs (figures trench saved) h =
     let (w, t) = and-split (wellTest runs) _ (h 0) in
     let p = plan-true runs w trench saved (λ c. true) t in
@@ -169,7 +189,7 @@ all-sound (e ∷ l) h = (
 
 -- every row of the table holds
 pub examples-hold : All Holds examples
-unfolding test testOf isRefused judged readFrom stepBy runStep endStep recordOf decoded runsBytes wellTest rises planTest leastTest choices inFront routesOf ways laneOf indexIn samePoint straightOn unionLength lies level len
+unfolding test testOf readOf isFew isRefused judged readFrom stepBy runStep endStep recordOf decoded runsBytes wellTest rises planTest leastTest choices inFront routesOf ways laneOf indexIn samePoint straightOn unionLength lies level len
     allStars inStar groupOf spread grown reached centres isCentre meets overlap edges inside spans distinct insert gap distance pitsOf pitPoints crossings crossing passesRow passesColumn amid unique flatten flatMap
 examples-hold = all-sound examples (λ number. refl)
 
@@ -247,9 +267,19 @@ pub blank-plan : (number : ℕ) → number < 2 ^ 32 → HasOnePlan number [] (bl
 unfolding wellTest rises planTest leastTest choices unionLength sameRoutes edges distinct pitsOf pitPoints crossings crossing passesRow passesColumn amid unique flatten flatMap allStars groupCount heads
 blank-plan number f = one-plan number [] (blankHead number) [] f refl refl refl refl
 
--- a call with words and bytes enough for a job with one plan gives that plan's length and leaves its bytes
+-- job 7 needs 60 words, for 3 columns and 5 rows, and 157 bytes
+pub job-7-needs : forecastOf (bytesOf 7 job7Runs) ≡ Needs 60 157
+unfolding wellTest rises touching spans distinct insert
+job-7-needs = ap foretoldBy (written-read 7 job7Runs (well-true 7 job7Runs (omega arith) refl))
+
+-- a job without runs needs no word, and 22 bytes
+pub blank-needs : (number : ℕ) → number < 2 ^ 32 → forecastOf (bytesOf number []) ≡ Needs 0 22
+unfolding wellTest rises distinct
+blank-needs number f = ap foretoldBy (written-read number [] (well-true number [] f refl))
+
+-- a call with the forecast or more for a job with one plan gives that plan's length and leaves its bytes
 pub one-plan-call : (number : ℕ) (runs : List Read) (head : Head) (entries : List Entry) → HasOnePlan number runs head entries
-    → (words : ℕ) (out : List ℕ) (s : Said) (out′ : List ℕ) → 16384 ≤ words → 40960 ≤ length out
+    → (words : ℕ) (out : List ℕ) (s : Said) (out′ : List ℕ) → wordsFor (runsOf runs) ≤ words → bytesFor (runsOf runs) ≤ length out
     → Outcome (verdict (bytesOf number runs) words (length out)) out s out′
     → (s ≡ gives (length (bookBytes head entries))) × (out′ ≡ bookBytes head entries ++ drop (length (bookBytes head entries)) out)
 one-plan-call number runs head entries one words out s out′ h k call =
@@ -257,9 +287,9 @@ one-plan-call number runs head entries one words out s out′ h k call =
     let e = one .plan-is (p .routes) (p .least) in
     (p .says ∙ ap (λ l. gives (length l)) e, p .plan ∙ ap (λ l. l ++ drop (length l) out) e)
 
--- so a call for a job without runs gives 22 and leaves its head, its end and the later bytes
-pub blank-call : (number : ℕ) → number < 2 ^ 32 → (words : ℕ) (out : List ℕ) (s : Said) (out′ : List ℕ) → 16384 ≤ words → 40960 ≤ length out
+-- so a call for a job without runs, lent no word and 22 bytes or more, gives 22 and leaves its head, its end and the later bytes
+pub blank-call : (number : ℕ) → number < 2 ^ 32 → (words : ℕ) (out : List ℕ) (s : Said) (out′ : List ℕ) → 22 ≤ length out
     → Outcome (verdict (bytesOf number []) words (length out)) out s out′
     → (s ≡ gives 22) × (out′ ≡ headRecord (blankHead number) ++ endRecord 0 ++ drop 22 out)
-unfolding bookBytes flatMap
-blank-call number f words out s out′ h k call = one-plan-call number [] (blankHead number) [] (blank-plan number f) words out s out′ h k call
+unfolding bookBytes flatMap distinct
+blank-call number f words out s out′ h call = one-plan-call number [] (blankHead number) [] (blank-plan number f) words out s out′ (omega arith) h call

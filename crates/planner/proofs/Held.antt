@@ -10,12 +10,13 @@ use Rattle.network.proofs.Numbers.{order}
 use Rattle.job.specs.declared.Run.{Run as Read}
 use Rattle.job.specs.declared.Job.{Job}
 use Rattle.job.specs.declared.Reading.{Reading}
+use Rattle.job.specs.declared.Found.{Found}
 use Rattle.job.specs.declared.Answer.the-variants.{Accepted}
 use Rattle.job.specs.Parse.{accepted, parse}
-use Rattle.job.specs.Reading.{column, jobOf, Reads}
+use Rattle.job.specs.Reading.{column, jobOf, Reads, runsBefore, ReadsInto}
 use Rattle.job.specs.Written.{Bytes, noRun, InRange, WellFormed}
 use Rattle.job.proofs.Columns.{column-entry, column-unused}
-use Rattle.job.proofs.Answered.{reading-accepts}
+use Rattle.job.proofs.Answered.{reading-accepts, into-accepts}
 use Rattle.grid.specs.Tables.{table}
 use Rattle.grid.specs.Runs.{runsHeld}
 use Rattle.network.specs.Entries.{length-table, getD-table}
@@ -67,6 +68,13 @@ pub reading-held : (s : List ℕ) (r : Reading) → Bytes s → Reads s r → r 
 reading-held s r b q a =
     let t = reading-accepts s r b q a in
     let (h, e) = job-held (r .job) (t .number) (t .runs) (t .job) (t .well-formed) in
+    (h, t .parsed ∙ e)
+
+-- the same of a reading into arrays
+pub into-held : (s : List ℕ) (r : Found) (j : Job) → Bytes s → ReadsInto s r j → r .answer ≡ Accepted → Held j × (parse s ≡ accepted (j .number) (runsIn j))
+into-held s r j b q a =
+    let t = into-accepts s r j q b a in
+    let (h, e) = job-held j (j .number) (runsBefore s (j .count)) (t .job) (t .well-formed) in
     (h, t .parsed ∙ e)
 
 -- ---- in the plane

@@ -3,6 +3,9 @@ pub mod Stars
 pub mod First
 pub mod Demands
 pub mod Fits
+pub mod Touching
+pub mod Room
+pub mod Counted
 pub mod Stored
 pub mod Examples
 pub mod Held

@@ -1,10 +1,10 @@
 -- The plan that is written is that of the routes that were laid: its figures are measured on them.
-use mathlib.Core.Path.{_≡_, refl, sym, ap, ap₂, _∙_, subst}
+use mathlib.Core.Path.{_≡_, refl, sym, ap, ap₂, _∙_}
 use mathlib.Core.Bool.{true}
 use mathlib.Core.List.{List, map, map-map}
-use Prim.Native.Nat.{ℕ, _-_, _≤_, _<_, _%_}
+use Prim.Native.Nat.{ℕ, _*_, _/_, _-_, _≤_, _<_, _%_}
 use native.Mathlib.Omega.{arith}
-use lib.ListN.{length, getD, take}
+use lib.ListN.{length, getD}
 use Rattle.network.specs.Lists.{sum, All}
 use Rattle.network.specs.Plane.{Run, distance}
 use Rattle.network.specs.Grid.{Grid}
@@ -16,23 +16,23 @@ use Rattle.network.proofs.Lists.{all-imp}
 use Rattle.network.proofs.Corners.{corners-union}
 use Rattle.groups.specs.Groups.{groupCount}
 use Rattle.grid.specs.declared.Axis.{Axis}
-use Rattle.grid.proofs.Places.{axis-line}
+use Rattle.grid.proofs.Places.{axis-line, axis-count}
 use Rattle.job.specs.declared.Job.{Job}
-use Rattle.route.specs.declared.Route.{Route}
-use Rattle.route.specs.Route.{drawnOf, OnGrid, numbered, cornersOf, Tables}
+use Rattle.route.specs.Route.{drawnOf, OnGrid, numbered, indexed, cornersOf, Tables}
 use Rattle.network.specs.Pits.{pitsOf}
-use Rattle.route.proofs.Corners.{on-numbered, pits-placed}
+use Rattle.route.proofs.Corners.{on-numbered, on-marks, pits-placed}
 use Rattle.plan.specs.declared.Head.{Head}
 use Rattle.plan.specs.Plan.{bookBytes, headOf, meetsOf, centreFigure}
 use Rattle.plan.specs.Writers.{entriesAt}
-use Rattle.plan.proofs.Whole.{plan-written, plan-most}
-use Rattle.laying.specs.declared.Layout.{Layout}
-use Rattle.laying.specs.Lease.{drawnBy, LaidOut}
+use Rattle.plan.proofs.Whole.{plan-written}
+use Rattle.laying.specs.Lease.{Layout, drawnBy, LaidOut}
 use Rattle.planner.specs.Call.{runsOf, numbersOf, planOf}
+use Rattle.planner.specs.Forecast.{bytesFor}
 use Rattle.planner.specs.Held.{runsIn, Held}
 use Rattle.planner.specs.Stages.{Lined, ownOf}
 use Rattle.planner.proofs.Held.{length-held, length-plane, held-few, numbers-held}
 use Rattle.planner.proofs.Fits.{runs-apart, few-lines, distances-bounded}
+use Rattle.planner.proofs.Room.{plan-within}
 
 -- a grid's own lines are tables of them
 own-tables : (g : Grid) → Tables g (g .columns) (g .rows)
@@ -45,23 +45,15 @@ module _ (j : Job) (h : Held j) (laid : Layout) (L : LaidOut (runsOf (runsIn j))
   abbrev g : Grid
   g = hanan (runsOf (runsIn j))
 
-  abbrev steps : List Route
-  steps = take (length (runsOf (runsIn j))) (laid .routes)
-
   lines-few : (length (g .columns) ≤ 64) × (length (g .rows) ≤ 64)
   lines-few = few-lines (runsIn j) (omega (arith, length-held j, held-few j h))
 
-  -- the first routes, as many as the job has runs
-  pub first-routes : take (j .count) (laid .routes) ≡ steps
-  first-routes = ap (λ n. take n (laid .routes)) (sym (length-plane j))
+  -- the routes are on the grid of indexes
+  pub on-indexes : All (OnGrid numbered) (laid .routes)
+  on-indexes = all-imp (OnGrid g) (OnGrid numbered) (λ r o. on-numbered g r (lines-few .0) (lines-few .1) o) (laid .routes) (L .on-grid)
 
-  pub on-indexes : All (OnGrid numbered) (take (j .count) (laid .routes))
-  on-indexes =
-      subst (All (OnGrid numbered)) (sym first-routes)
-      (all-imp (OnGrid g) (OnGrid numbered) (λ r o. on-numbered g r (lines-few .0) (lines-few .1) o) steps (L .on-grid))
-
-  own-is : ownOf runs laid ≡ map (λ r. corners (drawnOf g r)) steps
-  own-is = map-map corners (drawnOf g) steps
+  own-is : ownOf runs laid ≡ map (λ r. corners (drawnOf g r)) (laid .routes)
+  own-is = map-map corners (drawnOf g) (laid .routes)
 
   -- ---- the head
 
@@ -80,33 +72,38 @@ module _ (j : Job) (h : Held j) (laid : Layout) (L : LaidOut (runsOf (runsIn j))
   saved-is : laid .saved ≡ sum distance runs - unionLength g (ownOf runs laid)
   saved-is = omega (arith, L .best .trench, union-own)
 
-  pits-are : pitsOf (map cornersOf (take (j .count) (laid .routes))) ≡ pitsOf (ownOf runs laid)
-  pits-are =
-      ap (λ l. pitsOf (map cornersOf l)) first-routes
-      ∙ sym (pits-placed g (lines-few .0) (lines-few .1) (g .columns) (g .rows) (own-tables g) steps (L .on-grid)) ∙ ap pitsOf (sym own-is)
+  pits-are : pitsOf (map cornersOf (laid .routes)) ≡ pitsOf (ownOf runs laid)
+  pits-are = sym (pits-placed g (lines-few .0) (lines-few .1) (g .columns) (g .rows) (own-tables g) (laid .routes) (L .on-grid)) ∙ ap pitsOf (sym own-is)
 
   -- the figures of the head
-  pub head-is : (groups total saved pits : ℕ) → groups ≡ groupCount (meets g runs) (j .count) → groups ≤ j .count → total ≡ sum distance runs → saved ≡ laid .saved
-      → pits ≡ pitsOf (map cornersOf (take (j .count) (laid .routes))) → pits ≤ 4064
+  pub head-is : (number n groups total saved pits : ℕ) → number ≡ j .number → n ≡ j .count → groups ≡ groupCount (meets g runs) (j .count) → groups ≤ j .count → total ≡ sum distance runs → saved ≡ laid .saved
+      → pits ≡ pitsOf (map cornersOf (laid .routes)) → pits ≤ 4064
       → _≡_ {A = Head}
       (record {
         grouped = true;
-        job = j .number;
-        runs = j .count % 65536;
+        job = number;
+        runs = n % 65536;
         trench = total - saved;
         saved = saved;
         pits = pits % 65536;
         last = groups % 65536;
       })
-      (headOf (j .number) runs (ownOf runs laid))
-  head-is groups total saved pits s f t v p few =
-      let n : j .count % 65536 ≡ length runs = omega (arith, length-plane j, held-few j h) in
+      (headOf number runs (ownOf runs laid))
+  head-is number n groups total saved pits m c s f t v p few =
+      let r : n % 65536 ≡ length runs = omega (arith, length-plane j, held-few j h) in
       let u : total - saved ≡ unionLength g (ownOf runs laid) = ap₂ _-_ t v ∙ trench-is in
       let x = v ∙ saved-is in
       let o : pits % 65536 ≡ pitsOf (ownOf runs laid) = omega (arith, pits-are) in
       let k : groups % 65536 ≡ groups = omega (arith, f, held-few j h) in
       let q : groups % 65536 ≡ groupCount (meets g runs) (length runs) = k ∙ s ∙ ap (groupCount (meets g runs)) (sym (length-plane j)) in
-      λ i. record { grouped = true; job = j .number; runs = n i; trench = u i; saved = x i; pits = o i; last = q i }
+      λ i. record { grouped = true; job = number; runs = r i; trench = u i; saved = x i; pits = o i; last = q i }
+
+  -- the marks of as many vertices as the grid has are enough for them
+  pub on-vertices : (columns rows : Axis) → Lined runs columns rows → (n : ℕ) → rows .count * columns .count ≤ n
+      → All (OnGrid (indexed (columns .count) (n / columns .count))) (laid .routes)
+  on-vertices columns rows a n k =
+      on-marks (columns .count) (rows .count) n g (omega (arith, axis-count columns (g .columns) (a .columns-are))) (omega (arith, axis-count rows (g .rows) (a .rows-are))) k
+      (laid .routes) (L .on-grid)
 
   -- ---- the bytes
 
@@ -119,16 +116,12 @@ module _ (j : Job) (h : Held j) (laid : Layout) (L : LaidOut (runsOf (runsIn j))
           row-at = axis-line rows (g .rows) (a .rows-are);
         }
 
-    pub bytes-are : bookBytes head (entriesAt (columns .lines) (rows .lines) (j .numbers) ms cs (take (j .count) (laid .routes)))
+    pub bytes-are : bookBytes head (entriesAt (columns .lines) (rows .lines) (j .numbers) ms cs (laid .routes))
         ≡ planOf (j .number) (runsIn j) (drawnBy runs laid)
     bytes-are =
-        ap (λ l. bookBytes head (entriesAt (columns .lines) (rows .lines) (j .numbers) ms cs l)) first-routes
-        ∙ plan-written (j .number) (numbersOf (runsIn j)) runs (columns .lines) (rows .lines) (j .numbers) ms cs steps head (lines-few .0) (lines-few .1) lines-held
+        plan-written (j .number) (numbersOf (runsIn j)) runs (columns .lines) (rows .lines) (j .numbers) ms cs (laid .routes) head (lines-few .0) (lines-few .1) lines-held
         (L .on-grid) (e ∙ ap (headOf (j .number) runs) own-is)
         (λ i l. let o : i < j .count = omega (arith, L .full, length-plane j) in (numbers-held j h i, m i o, k i o))
 
-    pub bytes-fit : length (bookBytes head (entriesAt (columns .lines) (rows .lines) (j .numbers) ms cs (take (j .count) (laid .routes)))) ≤ 36886
-    bytes-fit =
-        rw bytes-are
-        (plan-most (j .number) (numbersOf (runsIn j)) runs (drawnBy runs laid) (omega (arith, length-plane j, held-few j h)) (lines-few .0) (lines-few .1)
-        (runs-apart (runsIn j) (h .well-formed .apart)) (L .best .least .are-routes))
+    pub bytes-fit : length (bookBytes head (entriesAt (columns .lines) (rows .lines) (j .numbers) ms cs (laid .routes))) ≤ bytesFor runs
+    bytes-fit = rw bytes-are (plan-within (j .number) (runsIn j) (drawnBy runs laid) (runs-apart (runsIn j) (h .well-formed .apart)) (L .best .least .are-routes))

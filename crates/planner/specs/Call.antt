@@ -1,10 +1,10 @@
--- What a call says and leaves (document 01): "An accepted call gives the plan's length; the plan fills that many first bytes, later bytes are untouched;
--- the first 16,384 words of the sheet are zero, later words untouched. A refused call gives a number and a place and changes no byte or word."
+-- What a call says and leaves (document 01): "An accepted call gives the plan's length; the plan fills that many first bytes, later bytes are untouched; ..
+-- A refused call gives a number and a place and changes no byte or word." (What is left of the work words: `Forecast`.)
 use mathlib.Core.Path.{_≡_}
 use mathlib.Core.List.{List, _++_, map}
 use Prim.Native.Nat.{ℕ}
 use lib.IntN.{ℤ, pos, negℤ}
-use lib.ListN.{length, drop, replicate}
+use lib.ListN.{length, drop}
 use Rattle.network.specs.Plane.{Run, _to_}
 use Rattle.network.specs.Hanan.{hanan}
 use Rattle.network.specs.Route.{Route, Least}
@@ -54,8 +54,3 @@ pub record Plans (number : ℕ) (runs : List Read) (out : List ℕ) (s : Said) (
   pub least : Least (hanan (runsOf runs)) (runsOf runs) routes
   pub says : s ≡ gives (length (planOf number runs routes))
   pub plan : out′ ≡ planOf number runs routes ++ drop (length (planOf number runs routes)) out
-
--- the work words, from `work` to `work′`: cleared by a call that plans, kept by one that refuses
-abbrev pub Words : Said → (work work′ : List ℕ) → Type 0
-Words (gives n) work work′ = work′ ≡ replicate 16384 0 ++ drop 16384 work
-Words (refuses number place) work work′ = work′ ≡ work

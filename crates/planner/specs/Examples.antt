@@ -11,12 +11,13 @@ use Rattle.network.specs.Corners.{corners}
 use Rattle.job.specs.declared.Run.{Run as Read}
 use Rattle.refusal.specs.declared.Refusal.{Refusal}
 use Rattle.refusal.specs.declared.Refusal.the-variants.{NoStar, Coincident}
-use Rattle.job.specs.Parse.{Parsed, accepted, refused}
+use Rattle.job.specs.Parse.{accepted, refused}
 use Rattle.job.specs.Written.{bytesOf}
 use Rattle.plan.specs.declared.Head.{Head}
 use Rattle.plan.specs.Plan.{Entry, bookBytes}
 use Rattle.planner.specs.Verdict.{verdict}
 use Rattle.planner.specs.Call.{runsOf, planOf}
+use Rattle.planner.specs.Forecast.{wordsFor, bytesFor}
 use Rattle.planner.specs.Figures.{planHead, planEntries}
 
 -- ---- jobs as written
@@ -75,9 +76,14 @@ examples =
 
 -- ---- what a row says
 
--- with words and bytes enough, this is the verdict on the bytes of the job
-abbrev pub HasVerdict : (number : ℕ) → List Read → Parsed → Type 0
-HasVerdict number runs v = (work out : ℕ) → 16384 ≤ work → 40960 ≤ out → verdict (bytesOf number runs) work out ≡ v
+-- with the forecast words and bytes or more, the bytes of the job are accepted
+abbrev pub IsAccepted : (number : ℕ) → List Read → Type 0
+IsAccepted number runs =
+    (work out : ℕ) → wordsFor (runsOf runs) ≤ work → bytesFor (runsOf runs) ≤ out → verdict (bytesOf number runs) work out ≡ accepted number runs
+
+-- with words and bytes enough for every job, they are refused so
+abbrev pub IsRefused : (number : ℕ) → List Read → Refusal → Type 0
+IsRefused number runs x = (work out : ℕ) → 16384 ≤ work → 36886 ≤ out → verdict (bytesOf number runs) work out ≡ refused x
 
 -- least routes of a job's runs, on its Hanan grid
 abbrev pub LeastOf : List Read → List Route → Type 0
@@ -91,12 +97,12 @@ Says (figures-pits trench saved pits) head = (head .trench ≡ trench) × (head 
 
 -- the job is accepted under any number, there is a least plan, and the head of every least plan has the figures
 pub record HasFigures (runs : List Read) (given : Figures) : Type 0 where
-  pub accepts : (number : ℕ) → number < 2 ^ 32 → HasVerdict number runs (accepted number runs)
+  pub accepts : (number : ℕ) → number < 2 ^ 32 → IsAccepted number runs
   pub some : (routes : List Route) × LeastOf runs routes
   pub says : (number : ℕ) (routes : List Route) → LeastOf runs routes → Says given (planHead number runs routes)
 
 abbrev pub HoldsOf : List Read → Figures → Type 0
-HoldsOf runs (refused-with x) = (number : ℕ) → number < 2 ^ 32 → HasVerdict number runs (refused x)
+HoldsOf runs (refused-with x) = (number : ℕ) → number < 2 ^ 32 → IsRefused number runs x
 HoldsOf runs (figures trench saved) = HasFigures runs (figures trench saved)
 HoldsOf runs (figures-pits trench saved pits) = HasFigures runs (figures-pits trench saved pits)
 
@@ -128,7 +134,7 @@ blankHead number = record { grouped = true; job = number; runs = 0; trench = 0; 
 -- The job is accepted and has one least plan: there are least routes, and all of them have the corners, the head, the figures of each run and the
 -- bytes that are given.
 pub record HasOnePlan (number : ℕ) (runs : List Read) (head : Head) (entries : List Entry) : Type 0 where
-  pub accepts : HasVerdict number runs (accepted number runs)
+  pub accepts : IsAccepted number runs
   pub some : (routes : List Route) × LeastOf runs routes
   pub corners-are : (routes : List Route) → LeastOf runs routes → map corners routes ≡ map (λ e. e .corners) entries
   pub head-is : (routes : List Route) → LeastOf runs routes → planHead number runs routes ≡ head

@@ -9,6 +9,10 @@ use Rattle.job.specs.Reading.{jobOf}
 use Rattle.job.specs.Written.{WellFormed}
 use Rattle.grid.specs.Tables.{table}
 
+-- the job of this number, with n runs in these arrays
+abbrev pub jobIn : (number n : ℕ) (numbers x1 y1 x2 y2 : List ℕ) → Job
+jobIn number n numbers x1 y1 x2 y2 = record { number = number; count = n; numbers = numbers; x1 = x1; y1 = y1; x2 = x2; y2 = y2 }
+
 -- run k
 abbrev pub runIn : Job → ℕ → Read
 runIn j k =

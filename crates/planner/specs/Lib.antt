@@ -1,8 +1,9 @@
 -- What the planner promises.
 -- the demands of a call
 pub mod Call
+pub mod Forecast
 pub mod Demands
--- the contracts of the two entry points, which the demands follow from
+-- the contracts of the entry points, which the demands follow from
 pub mod Verdict
 pub mod Outcome
 -- what is read of a plan that was stored

@@ -1,12 +1,14 @@
--- The contracts of the planner's two entry points: by the verdict, from the plan buffer at entry to what is said and to the buffer at exit.
+-- The contracts of the planner's entry points: by the verdict, from the plan buffer at entry to what is said and to the buffer at exit.
 use mathlib.Core.Path.{_≡_}
 use mathlib.Core.List.{List}
 use Prim.Native.Nat.{ℕ}
 use lib.IntN.{ℤ}
+use lib.ListN.{length}
 use Rattle.refusal.specs.declared.Refusal.{Refusal}
 use Rattle.refusal.specs.Refusal.{refusalNumber, refusalPlace}
 use Rattle.job.specs.Parse.{Parsed, accepted, refused}
 use Rattle.planner.specs.Call.{Said, refuses, codeOf, Plans}
+use Rattle.planner.specs.Verdict.{forecastOf, Words, verdict}
 
 pub record Refuses (x : Refusal) (out : List ℕ) (s : Said) (out′ : List ℕ) : Type 0 where
   pub says : s ≡ refuses (refusalNumber x) (refusalPlace x)
@@ -21,3 +23,8 @@ pub record MapOutcome (v : Parsed) (out : List ℕ) (code : ℤ) (out′ : List 
   pub said : Said
   pub told : code ≡ codeOf said
   pub outcome : Outcome v out said out′
+
+-- Its sister, which is lent the sheet too, returns the same, and leaves the words as `plan` does.
+pub record LentOutcome (job work out : List ℕ) (code : ℤ) (work′ out′ : List ℕ) : Type 0 where
+  pub map-outcome : MapOutcome (verdict job (length work) (length out)) out code out′
+  pub words : Words (forecastOf job) (map-outcome .said) work work′

@@ -1,40 +1,70 @@
-// The lines of a job, and its runs on them.
-use grid::Axis;
-use job::Job;
-use table::side::Side;
-ghost use Prim.Native.Nat.{_≤_};
-ghost use Rattle.planner.specs.Stages.{Surveys};
+// The lines of a job, the places of its runs' points among them, and what its forecast counts of both.
+use crate::Size;
+ghost use mathlib.Core.Path.{_≡_};
+ghost use Prim.Native.Nat.{_+_, _*_, _≤_};
+ghost use lib.ListN.{replicate};
+ghost use Rattle.planner.specs.Stages.{Placing, Within, stepsOn};
 
-// The lines of a job on one axis, and its runs on them.
-pub struct Survey {
-    pub axis: Axis,
-    pub side: Side,
+// Puts the lines of n runs on both axes, and the places of the runs' points among them, among zeros, and says how many lines there are.
+pub fn lay_out(
+    n: usize,
+    x1: &[u32; 32],
+    y1: &[u32; 32],
+    x2: &[u32; 32],
+    y2: &[u32; 32],
+    columns: &mut [u32; 64],
+    rows: &mut [u32; 64],
+    xfirst: &mut [u32; 32],
+    xsecond: &mut [u32; 32],
+    yfirst: &mut [u32; 32],
+    ysecond: &mut [u32; 32],
+) -> Size
+    requires { ⌜ (n ≤ 32) × (now columns ≡ replicate 64 0) × (now rows ≡ replicate 64 0) × (now xfirst ≡ replicate 32 0) × (now xsecond ≡ replicate 32 0)
+        × (now yfirst ≡ replicate 32 0) × (now ysecond ≡ replicate 32 0) ⌝ }
+    ensures { λ r. ⌜ Placing (now (x1 .entry)) (now (x2 .entry)) n (r .across) (now (columns .exit)) (now (xfirst .exit)) (now (xsecond .exit))
+        × Placing (now (y1 .entry)) (now (y2 .entry)) n (r .down) (now (rows .exit)) (now (yfirst .exit)) (now (ysecond .exit)) ⌝ }
+{
+    let across = grid::lay_lines(x1, x2, n, columns);
+    let down = grid::lay_lines(y1, y2, n, rows);
+    table::side::places(&*columns, across, x1, n, xfirst);
+    table::side::places(&*columns, across, x2, n, xsecond);
+    table::side::places(&*rows, down, y1, n, yfirst);
+    table::side::places(&*rows, down, y2, n, ysecond);
+    Size { across, down }
 }
 
-// The lines of n runs on one axis, of which the arrays hold the first and the second points' values.
-fn survey_axis(first: &[u32; 32], second: &[u32; 32], n: usize) -> Survey
-    requires { ⌜ n ≤ 32 ⌝ }
-    ensures { λ r. ⌜ Surveys (now (first .entry)) (now (second .entry)) n r ⌝ }
+// The words that planning needs: four for each vertex.
+pub fn words_for(size: Size) -> usize
+    requires { ⌜ (size .across ≤ 64) × (size .down ≤ 64) ⌝ }
+    ensures { λ r. ⌜ r ≡ size .across * size .down * 4 ⌝ }
 {
-    let axis = grid::axis_of(first, second, n);
-    let side = table::side::side_of(axis, first, second, n);
-    Survey { axis, side }
+    size.across * size.down * 4
 }
 
-pub fn columns_of(j: Job) -> Survey
-    requires { ⌜ j .count ≤ 32 ⌝ }
-    ensures { λ r. ⌜ Surveys (j .x1) (j .x2) (j .count) r ⌝ }
+// How many steps from line to line n runs pass on one axis, together, from the places of their points.
+fn steps_on(n: usize, first: &[u32; 32], second: &[u32; 32]) -> usize
+    requires { ⌜ (n ≤ 32) × Within (now first) (now second) n ⌝ }
+    ensures { λ r. ⌜ (r ≡ stepsOn (now (first .entry)) (now (second .entry)) n) × (r ≤ 64 * n) ⌝ }
 {
-    let first = j.x1;
-    let second = j.x2;
-    survey_axis(&first, &second, j.count)
+    let mut sum: usize = 0;
+    let mut k: usize = 0;
+    while k < n {
+        sum += table::frame::gap(first[k] as usize, second[k] as usize);
+        k += 1;
+    }
+    sum
 }
 
-pub fn rows_of(j: Job) -> Survey
-    requires { ⌜ j .count ≤ 32 ⌝ }
-    ensures { λ r. ⌜ Surveys (j .y1) (j .y2) (j .count) r ⌝ }
+// The bytes that the plan of n runs needs: a run's box is touched by one column and one row more than the run passes steps on the two axes.
+pub fn bytes_for(
+    n: usize,
+    xfirst: &[u32; 32],
+    xsecond: &[u32; 32],
+    yfirst: &[u32; 32],
+    ysecond: &[u32; 32],
+) -> usize
+    requires { ⌜ (n ≤ 32) × Within (now xfirst) (now xsecond) n × Within (now yfirst) (now ysecond) n ⌝ }
+    ensures { λ r. ⌜ r ≡ 22 + 18 * n + 9 * (stepsOn (now (xfirst .entry)) (now (xsecond .entry)) n + stepsOn (now (yfirst .entry)) (now (ysecond .entry)) n) ⌝ }
 {
-    let first = j.y1;
-    let second = j.y2;
-    survey_axis(&first, &second, j.count)
+    22 + 18 * n + 9 * (steps_on(n, xfirst, xsecond) + steps_on(n, yfirst, ysecond))
 }

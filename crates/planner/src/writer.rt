@@ -1,31 +1,28 @@
 // The plan of a lease: the figures of its routes, and the bytes.
-use grid::Axis;
-use job::Job;
-use laying::Layout;
+use crate::Size;
 use plan::Head;
 ghost use mathlib.Core.Path.{_≡_};
-ghost use Prim.Native.Nat.{_≤_};
+ghost use Prim.Native.Nat.{_+_, _≤_};
 ghost use lib.ListN.{length};
-ghost use Rattle.network.specs.Lists.{sum};
-ghost use Rattle.network.specs.Plane.{distance};
 ghost use Rattle.fields.specs.Bytes.{Wrote};
+ghost use Rattle.route.specs.Stored.{tracksOf, routesIn};
 ghost use Rattle.plan.specs.Plan.{headOf};
-ghost use Rattle.laying.specs.Lease.{drawnBy, LaidOut};
+ghost use Rattle.laying.specs.Lease.{Layout, drawnBy, LaidOut};
 ghost use Rattle.planner.specs.Call.{runsOf, planOf};
-ghost use Rattle.planner.specs.Held.{runsIn, Held};
-ghost use Rattle.laying.specs.declared.Layout.{Layout};
-ghost use Rattle.planner.specs.Stages.{Leased, Lined, ownOf, Heading};
+ghost use Rattle.planner.specs.Forecast.{bytesFor};
+ghost use Rattle.planner.specs.Held.{jobIn, runsIn};
+ghost use Rattle.planner.specs.Stages.{Surveyed, Leased, Scratch, ownOf, Heading};
+ghost use Rattle.job.specs.declared.Job.{Job};
 
-// The figures of the head, from the number of groups, the sum of the runs' distances, what the routes save, and their pits. The routes are not handed on: they would
-// be copied.
-fn head_of(j: Job, groups: usize, total: u32, saved: u32, pits: usize) -> Head
-    requires { ⌜ ((laid : Layout) × Heading j groups total saved pits laid) ⌝ }
-    ensures { λ r. ⌜ ((laid : Layout) → Heading j groups total saved pits laid → r ≡ headOf (j .number) (runsOf (runsIn j)) (ownOf (runsOf (runsIn j)) laid)) ⌝ }
+// The figures of the head, from the number of groups, the sum of the runs' distances, what the routes save, and their pits.
+fn head_of(number: u32, n: usize, groups: usize, total: u32, saved: u32, pits: usize) -> Head
+    requires { ⌜ ((j : Job) × (laid : Layout) × Heading j number n groups total saved pits laid) ⌝ }
+    ensures { λ r. ⌜ ((j : Job) (laid : Layout) → Heading j number n groups total saved pits laid → r ≡ headOf number (runsOf (runsIn j)) (ownOf (runsOf (runsIn j)) laid)) ⌝ }
 {
     Head {
         grouped: true,
-        job: j.number,
-        runs: (j.count % 65536) as u32,
+        job: number,
+        runs: (n % 65536) as u32,
         trench: total - saved,
         saved,
         pits: (pits % 65536) as u32,
@@ -33,49 +30,71 @@ fn head_of(j: Job, groups: usize, total: u32, saved: u32, pits: usize) -> Head
     }
 }
 
-// The sum of the distances of a job's runs.
-fn distances_of(j: Job) -> u32
-    requires { ⌜ Held j ⌝ }
-    ensures { λ r. ⌜ r ≡ sum distance (runsOf (runsIn j)) ⌝ }
-{
-    let x1 = j.x1;
-    let y1 = j.y1;
-    let x2 = j.x2;
-    let y2 = j.y2;
-    figures::total_distance(&x1, &y1, &x2, &y2, j.count)
-}
-
-// Writes the plan, and says its length.
+// Writes the plan of the routes, whose steps stand in the lent bytes, and says its length. Their vertices are marked in bytes that are 0.
 pub fn write(
-    j: Job,
-    neighbours: [u32; 32],
-    centres: [usize; 32],
-    columns: Axis,
-    rows: Axis,
-    laid: Layout,
+    number: u32,
+    n: usize,
+    numbers: &[u32; 32],
+    x1: &[u32; 32],
+    y1: &[u32; 32],
+    x2: &[u32; 32],
+    y2: &[u32; 32],
+    columns: &[u32; 64],
+    rows: &[u32; 64],
+    size: Size,
+    xfirst: &[u32; 32],
+    xsecond: &[u32; 32],
+    yfirst: &[u32; 32],
+    ysecond: &[u32; 32],
+    neighbours: &[u32; 32],
+    centres: &[usize; 32],
+    saved: u64,
+    routes: &[u8],
+    marks: &mut [u8],
     out: &mut [u8],
 ) -> usize
-    requires { ⌜ Leased j neighbours centres × LaidOut (runsOf (runsIn j)) laid × Lined (runsOf (runsIn j)) columns rows × (40960 ≤ length (now out)) ⌝ }
-    ensures { λ n. ⌜ Wrote (planOf (j .number) (runsIn j) (drawnBy (runsOf (runsIn j)) laid)) (now (out .entry)) (now (out .exit)) n ⌝ }
+    requires { ⌜ Leased (jobIn number n (now numbers) (now x1) (now y1) (now x2) (now y2)) (now neighbours) (now centres) × Surveyed (jobIn number n (now numbers) (now x1) (now y1) (now x2) (now y2)) size (now columns) (now rows) (now xfirst) (now xsecond) (now yfirst) (now ysecond)
+        × LaidOut (runsOf (runsIn (jobIn number n (now numbers) (now x1) (now y1) (now x2) (now y2)))) (record { saved = saved; routes = routesIn (now routes) (size .across + size .down) (tracksOf (now xfirst) (now yfirst) (now xsecond) (now ysecond)) n })
+        × Scratch n size (now routes) (now marks) × (bytesFor (runsOf (runsIn (jobIn number n (now numbers) (now x1) (now y1) (now x2) (now y2)))) ≤ length (now out)) ⌝ }
+    ensures { λ r. ⌜ Wrote (planOf number (runsIn (jobIn number n (now (numbers .entry)) (now (x1 .entry)) (now (y1 .entry)) (now (x2 .entry)) (now (y2 .entry)))) (drawnBy (runsOf (runsIn (jobIn number n (now (numbers .entry)) (now (x1 .entry)) (now (y1 .entry)) (now (x2 .entry)) (now (y2 .entry))))) (record { saved = saved; routes = routesIn (now (routes .entry)) (size .across + size .down) (tracksOf (now (xfirst .entry)) (now (yfirst .entry)) (now (xsecond .entry)) (now (ysecond .entry))) n })))
+        (now (out .entry)) (now (out .exit)) r ⌝ }
 {
-    let groups = intersection::finder::count_groups(&centres, j.count);
-    let routes = laid.routes;
-    let pits = route::pits(routes, j.count);
-    let head = head_of(j, groups, distances_of(j), laid.saved as u32, pits);
-    let meets = figures::meets_figures(&neighbours, j.count);
-    let numbers = j.numbers;
-    let middles = figures::centre_numbers(&numbers, &centres, j.count);
-    let xs = columns.lines;
-    let ys = rows.lines;
+    let stride = size.across + size.down;
+    let mut corners = [0usize; 32];
+    let pits = route::mark_routes(
+        routes,
+        stride,
+        xfirst,
+        yfirst,
+        xsecond,
+        ysecond,
+        n,
+        marks,
+        size.across,
+        &mut corners,
+    );
+    let groups = intersection::finder::count_groups(centres, n);
+    let total = figures::total_distance(x1, y1, x2, y2, n);
+    let head = head_of(number, n, groups, total, saved as u32, pits);
+    let mut meets = [0u32; 32];
+    let mut middles = [0u32; 32];
+    figures::tell_meets(neighbours, n, &mut meets);
+    figures::tell_centres(numbers, centres, n, &mut middles);
     plan::write_plan(
         out,
         head,
-        &numbers,
+        numbers,
         &meets,
         &middles,
+        &corners,
         routes,
-        j.count,
-        &xs,
-        &ys,
+        stride,
+        xfirst,
+        yfirst,
+        xsecond,
+        ysecond,
+        n,
+        columns,
+        rows,
     )
 }

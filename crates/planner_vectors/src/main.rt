@@ -1,11 +1,15 @@
-// Plans each job on standard input on a dirty work sheet and into a dirty plan buffer, of several sizes. A line of the input is a label, a space
-// and the job's bytes in hexadecimal. A line of the output has the label and, for each call, the refusal's number and place, or the plan's groups,
-// trench and saved, and of each run the meets figure and the number of its centre; then `kept`, or `changed` if a byte or a word that is lent is not as it is due.
-// Four calls of `plan` are followed by two of `plan_for_map`, which answers the refusal's number alone.
+// Tells what planning each job on standard input needs, and plans it on dirty work words and into a dirty plan buffer. A line of the input is a label,
+// a space and the job's bytes in hexadecimal. A line of the output has the label, then `needs` and the forecast's words and bytes, or `refused` and the
+// number and place of its refusal; and for each call the refusal's number and place, or the plan's groups, trench and saved, and of each run the meets
+// figure and the number of its centre; then `kept`, or `changed` if a byte or a word, lent or not, is not as it is due.
+// Of the seven calls four are of `plan`, lent just the forecast, more of both, a word less and a byte less; two of `plan_for_map`, lent the forecast's
+// bytes and one less; and the last of `plan_in`, lent just the forecast.
 use libc::STDIN_FILENO;
 use libc::STDOUT_FILENO;
 use planner::Answer;
+use planner::Foretold;
 use records::Record;
+use refusal::Refusal;
 ghost use mathlib.Core.Path.{_≡_};
 ghost use Prim.Native.Nat.{_≤_};
 ghost use lib.ListN.{length};
@@ -37,24 +41,12 @@ fn refusal_of(code: i32) -> u64 {
     }
 }
 
-// Whether the first 16,384 words are 0, and the others are 3.
-fn is_cleared(work: &[u32]) -> bool {
+// Whether the first words, as many as are cleared, are 0, and the others are 3.
+fn words_kept(work: &[u32], cleared: usize) -> bool {
     let mut i: usize = 0;
     while i < work.len() {
-        let due: u32 = if i < 16384 { 0 } else { 3 };
+        let due: u32 = if i < cleared { 0 } else { 3 };
         if work[i] != due {
-            return false;
-        }
-        i += 1;
-    }
-    true
-}
-
-// Whether all words are 3.
-fn words_kept(work: &[u32]) -> bool {
-    let mut i: usize = 0;
-    while i < work.len() {
-        if work[i] != 3 {
             return false;
         }
         i += 1;
@@ -72,6 +64,11 @@ fn bytes_kept(out: &[u8], from: usize) -> bool {
         i += 1;
     }
     true
+}
+
+fn print_refusal(refusal: Refusal) {
+    print_number(refusal::number(refusal) as u64);
+    print_number(refusal::place(refusal) as u64);
 }
 
 fn print_kept(kept: bool) {
@@ -148,75 +145,111 @@ fn map_plan_kept(out: &[u8], code: i32) -> bool {
     (length_code(end + 3) == code) & bytes_kept(out, end + 3)
 }
 
-// Every word of the sheet is 3 and every byte of the buffer is 7 before a call.
-fn call(job: &[u8], work: &mut [u32], out: &mut [u8]) {
-    print(b" |");
-    match planner::plan(job, work, out) {
-        Answer::Planned(length) => {
-            let kept = plan_kept(out, length);
-            print_kept(kept & is_cleared(work));
-        }
-        Answer::Refused(refusal) => {
-            print_number(refusal::number(refusal) as u64);
-            print_number(refusal::place(refusal) as u64);
-            print_kept(words_kept(work) & bytes_kept(out, 0));
-        }
-    }
-}
-
-fn map_call(job: &[u8], out: &mut [u8]) {
-    print(b" |");
-    let code = planner::plan_for_map(job, out);
+// What a code tells, the plan or the refusal, and whether the bytes that are not the plan's are kept.
+fn code_kept(job: &[u8], code: i32, out: &[u8]) -> bool {
     if code < 0 {
         print_number(refusal_of(code));
-        print_kept(bytes_kept(out, 0));
-    } else {
-        let kept = map_plan_kept(out, code);
-        print_kept(kept);
+        print_number(planner::place_for_map(job) as u64);
+        return bytes_kept(out, 0);
+    }
+    map_plan_kept(out, code)
+}
+
+// ---- the calls: of 16,400 words of 3 and 36,926 bytes of 7 the first are lent, and a plan clears so many words
+
+fn call_on(job: &[u8], words: usize, bytes: usize, cleared: usize, work: &mut [u32], out: &mut [u8])
+    requires { ⌜ (words ≤ length (now work)) × (bytes ≤ length (now out)) ⌝ }
+{
+    print(b" |");
+    match planner::plan(job, &mut work[..words], &mut out[..bytes]) {
+        Answer::Planned(length) => {
+            let kept = plan_kept(out, length);
+            print_kept(kept & words_kept(work, cleared));
+        }
+        Answer::Refused(refusal) => {
+            print_refusal(refusal);
+            print_kept(words_kept(work, 0) & bytes_kept(out, 0));
+        }
     }
 }
 
-fn call_exact(job: &[u8]) {
-    let mut work = [3u32; 16384];
-    let mut out = [7u8; 40960];
-    call(job, &mut work, &mut out);
-}
-
-fn call_large(job: &[u8]) {
+fn call(job: &[u8], words: usize, bytes: usize, cleared: usize)
+    requires { ⌜ (words ≤ 16400) × (bytes ≤ 36926) ⌝ }
+{
     let mut work = [3u32; 16400];
-    let mut out = [7u8; 41000];
-    call(job, &mut work, &mut out);
+    let mut out = [7u8; 36926];
+    call_on(job, words, bytes, cleared, &mut work, &mut out);
 }
 
-fn call_short_work(job: &[u8]) {
-    let mut work = [3u32; 16383];
-    let mut out = [7u8; 40960];
-    call(job, &mut work, &mut out);
+fn map_call_on(job: &[u8], bytes: usize, out: &mut [u8])
+    requires { ⌜ bytes ≤ length (now out) ⌝ }
+{
+    print(b" |");
+    let code = planner::plan_for_map(job, &mut out[..bytes]);
+    let kept = code_kept(job, code, out);
+    print_kept(kept);
 }
 
-fn call_short_plan(job: &[u8]) {
-    let mut work = [3u32; 16384];
-    let mut out = [7u8; 40959];
-    call(job, &mut work, &mut out);
+fn map_call(job: &[u8], bytes: usize)
+    requires { ⌜ bytes ≤ 36926 ⌝ }
+{
+    let mut out = [7u8; 36926];
+    map_call_on(job, bytes, &mut out);
 }
 
-fn map_call_large(job: &[u8]) {
-    let mut out = [7u8; 41000];
-    map_call(job, &mut out);
+fn lent_call_on(job: &[u8], words: usize, bytes: usize, work: &mut [u32], out: &mut [u8])
+    requires { ⌜ (words ≤ length (now work)) × (bytes ≤ length (now out)) ⌝ }
+{
+    print(b" |");
+    let code = planner::plan_in(job, &mut work[..words], &mut out[..bytes]);
+    let kept = code_kept(job, code, out);
+    let cleared = if code < 0 { 0 } else { words };
+    print_kept(kept & words_kept(work, cleared));
 }
 
-fn map_call_short(job: &[u8]) {
-    let mut out = [7u8; 40959];
-    map_call(job, &mut out);
+fn lent_call(job: &[u8], words: usize, bytes: usize)
+    requires { ⌜ (words ≤ 16400) × (bytes ≤ 36926) ⌝ }
+{
+    let mut work = [3u32; 16400];
+    let mut out = [7u8; 36926];
+    lent_call_on(job, words, bytes, &mut work, &mut out);
 }
 
+// One less, but not below 0.
+fn less(n: usize) -> usize
+    ensures { λ r. ⌜ r ≤ n ⌝ }
+{
+    if n == 0 { 0 } else { n - 1 }
+}
+
+// The seven calls for a job of this forecast.
+fn calls(job: &[u8], words: usize, bytes: usize)
+    requires { ⌜ (words ≤ 16384) × (bytes ≤ 36886) ⌝ }
+{
+    call(job, words, bytes, words);
+    call(job, words + 16, bytes + 40, words);
+    call(job, less(words), bytes, words);
+    call(job, words, less(bytes), words);
+    map_call(job, bytes);
+    map_call(job, less(bytes));
+    lent_call(job, words, bytes);
+}
+
+// A forecast above the most that a job can need is lent as the most. Where there is none, nothing is lent, or little.
 fn try_job(job: &[u8]) {
-    call_exact(job);
-    call_large(job);
-    call_short_work(job);
-    call_short_plan(job);
-    map_call_large(job);
-    map_call_short(job);
+    match planner::forecast(job) {
+        Foretold::Needs(words, bytes) => {
+            print(b" needs");
+            print_number(words as u64);
+            print_number(bytes as u64);
+            calls(job, hex::least(words, 16384), hex::least(bytes, 36886));
+        }
+        Foretold::Refused(refusal) => {
+            print(b" refused");
+            print_refusal(refusal);
+            calls(job, 0, 0);
+        }
+    }
     print(b"\n");
 }
 

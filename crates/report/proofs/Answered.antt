@@ -10,6 +10,7 @@ use Rattle.network.specs.Route.{Route, Least}
 use Rattle.job.specs.declared.Run.{Run as Read}
 use Rattle.refusal.specs.declared.Refusal.{Refusal}
 use Rattle.job.specs.Parse.{Parsed, accepted, refused, parse}
+use Rattle.job.specs.Written.{Bytes}
 use Rattle.planner.specs.declared.Answer.{Answer}
 use Rattle.planner.specs.declared.Answer.the-variants.{Planned, Refused}
 use Rattle.refusal.specs.Refusal.{refusalNumber, refusalPlace}
@@ -17,7 +18,7 @@ use Rattle.refusal.proofs.Numbers.{same-refusal}
 use Rattle.planner.specs.Call.{runsOf, planOf, gives, said}
 use Rattle.planner.specs.Verdict.{judged, verdict}
 use Rattle.planner.specs.Outcome.{Outcome}
-use Rattle.planner.proofs.Verdicts.{no-plan, enough}
+use Rattle.planner.proofs.Verdicts.{no-plan, most-lent}
 
 -- an answer, and what stands in the plan buffer: the plan of least routes, or the refusal
 pub data Answered (v : Parsed) (answer : Answer) (plan : List ℕ) : Type 0 where
@@ -38,12 +39,12 @@ said-refused (Refused y) x e =
     ap Refused (same-refusal y x number place)
 
 -- a call with work words and a plan buffer of zeros, as many as are asked for
-pub answered : (job : List ℕ) (answer : Answer) (plan : List ℕ)
-    → Outcome (verdict job (length {A = ℕ} (replicate 16384 0)) (length {A = ℕ} (replicate 40960 0))) (replicate 40960 0) (said answer) plan
+pub answered : (job : List ℕ) (answer : Answer) (plan : List ℕ) → Bytes job
+    → Outcome (verdict job (length {A = ℕ} (replicate 16384 0)) (length {A = ℕ} (replicate 36886 0))) (replicate 36886 0) (said answer) plan
     → Answered (judged (parse job)) answer plan
-answered job answer plan call =
-    go (judged (parse job)) (rw (length-replicate {A = ℕ} 16384 0, length-replicate {A = ℕ} 40960 0, enough job 16384 40960 (omega arith) (omega arith)) at call)
+answered job answer plan b call =
+    go (judged (parse job)) (rw (length-replicate {A = ℕ} 16384 0, length-replicate {A = ℕ} 36886 0, most-lent job 16384 36886 b (omega arith) (omega arith)) at call)
   where
-    go : (v : Parsed) → Outcome v (replicate 40960 0) (said answer) plan → Answered v answer plan
+    go : (v : Parsed) → Outcome v (replicate 36886 0) (said answer) plan → Answered v answer plan
     go (accepted number runs) p = planned number runs (p .routes) _ refl (p .least) (said-planned answer _ (p .says)) (p .plan)
     go (refused x) r = refusing x refl (said-refused answer x (r .says))

@@ -1,9 +1,9 @@
 -- The listing of a job that has one least plan is one text: that of job 7 is the sample of document 01, "Listing", with the groups and the centres of
 -- document 02, C-16, byte for byte, and that of a job without runs is one line.
-use mathlib.Core.Path.{_≡_, refl, sym, ap, ap₂, _∙_, subst}
+use mathlib.Core.Path.{_≡_, refl, ap, ap₂, _∙_, subst}
 use mathlib.Core.List.{List, [], _++_, append-assoc, flatMap}
 use Prim.Native.Nat.{ℕ, _<_, _^_}
-use native.Mathlib.Omega.{arith}
+use native.Mathlib.Nat.{le-refl}
 use Rattle.job.specs.declared.Run.{Run as Read}
 use Rattle.refusal.specs.declared.Refusal.the-variants.{NoStar}
 use Rattle.job.specs.Parse.{Parsed, parse}
@@ -12,7 +12,9 @@ use Rattle.plan.specs.declared.Head.{Head}
 use Rattle.plan.specs.Plan.{Entry}
 use Rattle.planner.specs.Verdict.{judged}
 use Rattle.planner.specs.Examples.{job7Runs, job7Head, job7Entries, blankHead, HasOnePlan}
-use Rattle.planner.proofs.Verdicts.{enough}
+use Rattle.planner.specs.Call.{runsOf}
+use Rattle.planner.specs.Forecast.{wordsFor, bytesFor}
+use Rattle.planner.proofs.Verdicts.{lent-enough}
 use Rattle.planner.proofs.Examples as examples
 use Rattle.text.specs.Numerals.{ascii, decimal, digits}
 use Rattle.text.specs.Text.{planText, refusalText}
@@ -34,7 +36,9 @@ sample-text = refl
 one-plan-listed : (number : ℕ) (runs : List Read) (head : Head) (entries : List Entry) → HasOnePlan number runs head entries → (text text′ : List ℕ) (n : ℕ)
     → Reported (judged (parse (bytesOf number runs))) text text′ n → Listed (planText head entries) text text′ n
 one-plan-listed number runs head entries one text text′ n r =
-    let accepts = sym (enough (bytesOf number runs) 16384 40960 (omega arith) (omega arith)) ∙ one .accepts 16384 40960 (omega arith) (omega arith) in
+    let words = wordsFor (runsOf runs) in
+    let bytes = bytesFor (runsOf runs) in
+    let accepts = lent-enough (bytesOf number runs) words bytes number runs (one .accepts words bytes (le-refl words) (le-refl bytes)) .2 in
     let p = subst (λ (v : Parsed). Reported v text text′ n) accepts r in
     subst (λ t. Listed t text text′ n) (ap₂ planText (one .head-is (p .routes) (p .least)) (one .entries-are (p .routes) (p .least))) (p .listed)
 

@@ -1,8 +1,9 @@
 -- The corners that a walker yields are those of the network's route: on the grid of indexes, and on every grid once the lines are looked up.
 -- Both are the turns of the same steps.
 use mathlib.Core.Path.{_≡_, sym, ap, _∙_}
-use mathlib.Core.List.{List, map, map-id, map-map}
-use Prim.Native.Nat.{ℕ, _-_, _≤_, _<_}
+use mathlib.Core.List.{List, [], _∷_, map, map-id, map-map}
+use Prim.Native.Nat.{ℕ, _-_, _*_, _/_, _≤_, _<_}
+use native.Mathlib.Nat.{le-trans, le-div-iff-mul-le}
 use native.Mathlib.Omega.{arith}
 use lib.ListN.{length, getD}
 use Rattle.network.specs.Lists.{any, All}
@@ -14,15 +15,14 @@ use Rattle.network.specs.Steps.{Dir, steps, extent, spot, at}
 use Rattle.network.specs.Corners.{corners}
 use Rattle.network.specs.Entries.{below-at, length-below}
 use Rattle.network.specs.Pits.{pitsOf}
-use Rattle.network.proofs.Lists.{all-map}
+use Rattle.network.proofs.Lists.{all-map, all-imp}
 use Rattle.network.proofs.Lanes.{at-fits, point-path}
 use Rattle.network.proofs.Moved.{rising-keeps, pits-kept}
-use Rattle.route.specs.declared.Route.{Route}
-use Rattle.route.specs.Route.{stepsOf, columnsOf, rowsOf, drawnOf, OnGrid, numbered, cornersOf, placed, Tables}
+use Rattle.route.specs.Route.{Route, stepsOf, columnsOf, rowsOf, drawnOf, OnGrid, numbered, indexed, cornersOf, placed, Tables}
 use Rattle.route.specs.Walker.{standing}
 use Rattle.route.specs.Marked.{touched}
 use Rattle.route.proofs.Lists.{map-cong}
-use Rattle.route.proofs.Lanes.{fits-more, columns-extent, rows-extent}
+use Rattle.route.proofs.Lanes.{fits-few, fits-more, columns-extent, rows-extent}
 use Rattle.route.proofs.Turns.{bends, trail, turns, turns-map, turns-all, turns-length, corners-turns}
 use Rattle.route.proofs.Walk.{few-steps, visits, left, on-start, vertexAt, visits-trail}
 use Rattle.route.proofs.Touched.{touches, touched-way}
@@ -49,21 +49,21 @@ turns-corners r o =
     (below-at 64 (at (rowsOf r) j) (omega (arith, at-fits (numbered .rows) (rowsOf r) (o .rows-fit) j q, length-below 64)))))
 
 -- what is ahead of the walker that has not moved is the whole trail
-start-trail : (r : Route) → length (r .steps) ≡ 128 → OnGrid numbered r → visits r (standing r) ≡ trail (vertexAt r) 0 0 2 (stepsOf r)
+start-trail : (r : Route) → OnGrid numbered r → visits r (standing (r .start)) ≡ trail (vertexAt r) 0 0 2 (stepsOf r)
 unfolding visits steps
-start-trail r f o = visits-trail (r .count - 0) r (standing r) (on-start r f o) (omega arith)
+start-trail r o = visits-trail (r .count - 0) r (standing (r .start)) (on-start r o) (omega arith)
 
 -- and the corners ahead are those of the route
-pub left-start : (r : Route) → length (r .steps) ≡ 128 → OnGrid numbered r → left r (standing r) ≡ cornersOf r
-left-start r f o = ap bends (start-trail r f o) ∙ turns-corners r o
+pub left-start : (r : Route) → OnGrid numbered r → left r (standing (r .start)) ≡ cornersOf r
+left-start r o = ap bends (start-trail r o) ∙ turns-corners r o
 
 -- what is ahead touches what the corners say
-pub visits-touched : (r : Route) → length (r .steps) ≡ 128 → OnGrid numbered r → (d : Dir) (p : Point)
-    → any (touches d p) (visits r (standing r)) ≡ touched (cornersOf r) d p
-visits-touched r f o d p =
+pub visits-touched : (r : Route) → OnGrid numbered r → (d : Dir) (p : Point)
+    → any (touches d p) (visits r (standing (r .start))) ≡ touched (cornersOf r) d p
+visits-touched r o d p =
     let m = columns-extent r in
     let n = rows-extent r in
-    rw (start-trail r f o, ← turns-corners r o)
+    rw (start-trail r o, ← turns-corners r o)
     (sym (touched-way (numbered .columns) (numbered .rows) (columnsOf r) (rowsOf r) (o .columns-fit) (o .rows-fit) d p (stepsOf r) (omega arith) (omega arith)))
 
 -- a route on at most 64 columns and 64 rows has at most 127 corners
@@ -78,27 +78,48 @@ corners-all P r o holds =
     let q = rows-extent r in
     rw (← turns-corners r o) (turns-all P (vertexAt r) (extent (columnsOf r)) (extent (rowsOf r)) holds 0 0 2 (stepsOf r) (omega arith) (omega arith))
 
--- they are vertices of the grid of indexes
-pub corners-vertices : (r : Route) → OnGrid numbered r → All (Vertex numbered) (cornersOf r)
-unfolding numbered
-corners-vertices r o =
-    corners-all (Vertex numbered) r o (λ i j a b.
-    let c = at-fits (numbered .columns) (columnsOf r) (o .columns-fit) i a in
-    let d = at-fits (numbered .rows) (rowsOf r) (o .rows-fit) j b in
+-- they are vertices of each grid of indexes that the route is on
+corners-vertices : (width height : ℕ) (r : Route) → OnGrid numbered r → OnGrid (indexed width height) r → All (Vertex (indexed width height)) (cornersOf r)
+unfolding indexed
+corners-vertices width height r n o =
+    corners-all (Vertex (indexed width height)) r n (λ i j a b.
+    let c = at-fits (below width) (columnsOf r) (o .columns-fit) i a in
+    let d = at-fits (below height) (rowsOf r) (o .rows-fit) j b in
     record {
-      column = (at (columnsOf r) i, c, below-at 64 (at (columnsOf r) i) (omega (arith, length-below 64)));
-      row = (at (rowsOf r) j, d, below-at 64 (at (rowsOf r) j) (omega (arith, length-below 64)));
+      column = (at (columnsOf r) i, c, below-at width (at (columnsOf r) i) (omega (arith, length-below width)));
+      row = (at (rowsOf r) j, d, below-at height (at (rowsOf r) j) (omega (arith, length-below height)));
     })
 
--- a grid of at most 64 columns and 64 rows: what is on it is on the grid of indexes
-pub on-numbered : (g : Grid) (r : Route) → length (g .columns) ≤ 64 → length (g .rows) ≤ 64 → OnGrid g r → OnGrid numbered r
-unfolding numbered
-on-numbered g r h k o =
+-- so those of several routes
+pub routes-vertices : (width height : ℕ) (l : List Route) → All (OnGrid numbered) l → All (OnGrid (indexed width height)) l
+    → All (All (Vertex (indexed width height))) (map cornersOf l)
+routes-vertices width height [] a b = tt
+routes-vertices width height (r ∷ l) a b = (corners-vertices width height r (a .0) (b .0), routes-vertices width height l (a .1) (b .1))
+
+-- a grid of at most so many columns and rows: what is on it is on the grid of indexes
+pub on-indexed : (width height : ℕ) (g : Grid) (r : Route) → length (g .columns) ≤ width → length (g .rows) ≤ height → OnGrid g r
+    → OnGrid (indexed width height) r
+unfolding indexed
+on-indexed width height g r h k o =
     record {
       held = o .held;
-      columns-fit = fits-more (g .columns) (below 64) (columnsOf r) (omega (arith, length-below 64)) (o .columns-fit);
-      rows-fit = fits-more (g .rows) (below 64) (rowsOf r) (omega (arith, length-below 64)) (o .rows-fit);
+      columns-fit = fits-more (g .columns) (below width) (columnsOf r) (omega (arith, length-below width)) (o .columns-fit);
+      rows-fit = fits-more (g .rows) (below height) (rowsOf r) (omega (arith, length-below height)) (o .rows-fit);
     }
+
+-- and there are marks for them, with so many a row
+pub on-marks : (width height n : ℕ) (g : Grid) → length (g .columns) ≤ width → length (g .rows) ≤ height → height * width ≤ n → (l : List Route) → All (OnGrid g) l
+    → All (OnGrid (indexed width (n / width))) l
+on-marks width height n g h k s =
+    all-imp (OnGrid g) (OnGrid (indexed width (n / width)))
+    (λ r o.
+    let some : 0 < width = omega (arith, fits-few (g .columns) (columnsOf r) (o .columns-fit)) in
+    on-indexed width (n / width) g r h (le-trans k (le-div-iff-mul-le some .1 s)) o)
+
+-- of 64 too
+pub on-numbered : (g : Grid) (r : Route) → length (g .columns) ≤ 64 → length (g .rows) ≤ 64 → OnGrid g r → OnGrid numbered r
+unfolding numbered indexed
+on-numbered g r h k o = on-indexed 64 64 g r h k o
 
 -- ---- a grid of at most 64 columns and 64 rows, whose lines stand in tables
 

@@ -8,8 +8,7 @@ use lib.ListN.{length}
 use Rattle.network.specs.Graph.{below}
 use Rattle.network.specs.Steps.{hor, ver, steps, Lane, forth, back, extent, at, Fits}
 use Rattle.network.proofs.Lanes.{at-fits}
-use Rattle.route.specs.declared.Route.{Route}
-use Rattle.route.specs.Route.{stepsOf, lane, columnsOf, rowsOf}
+use Rattle.route.specs.Route.{Route, stepsOf, lane, columnsOf, rowsOf}
 use Rattle.network.specs.Entries.{length-below}
 use Rattle.route.specs.Walker.{following, Room}
 
@@ -48,11 +47,11 @@ pub lane-following : (b : Bool) (a n i : ℕ) → at (lane b a n) (suc i) ≡ fo
 lane-following true a n i = omega arith
 lane-following false a n i = omega arith
 
--- on 64 lines: they are among the 64
-pub lane-in : (b : Bool) (a n i : ℕ) → Fits (below 64) (lane b a n) → i ≤ n → at (lane b a n) i < 64
-lane-in b a n i f h = omega (arith, at-fits (below 64) (lane b a n) f i (rw (lane-extent b a n) h), length-below 64)
+-- on m lines: they are among the m
+pub lane-in : (m : ℕ) (b : Bool) (a n i : ℕ) → Fits (below m) (lane b a n) → i ≤ n → at (lane b a n) i < m
+lane-in m b a n i f h = omega (arith, at-fits (below m) (lane b a n) f i (rw (lane-extent b a n) h), length-below m)
 
--- and before the last there is room for a step
+-- and of 64, before the last there is room for a step
 pub lane-room : (b : Bool) (a n i : ℕ) → Fits (below 64) (lane b a n) → i < n → Room b (at (lane b a n) i)
 lane-room true a n i f h = omega (arith, length-below 64)
 lane-room false a n i f h = omega (arith, length-below 64)

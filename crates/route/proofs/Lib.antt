@@ -1,5 +1,6 @@
 -- The laws of routes on lines, by topic.
 pub mod Lists
+pub mod Stored
 pub mod Lanes
 pub mod Turns
 pub mod Walk

@@ -12,10 +12,9 @@ use lib.Dec.{eqb}
 use Rattle.network.specs.Plane.{Point}
 use Rattle.network.specs.Steps.{Dir, hor, ver, steps, at}
 use Rattle.network.specs.Graph.{below}
-use Rattle.route.specs.declared.Route.{Route}
 use Rattle.route.specs.declared.Walker.{Walker}
 use Rattle.route.specs.declared.Stepped.{Stepped}
-use Rattle.route.specs.Route.{dirOf, stepsOf, columnsOf, rowsOf, OnGrid, numbered}
+use Rattle.route.specs.Route.{Route, dirOf, stepsOf, columnsOf, rowsOf, OnGrid, numbered, indexed}
 use Rattle.network.specs.Entries.{length-below}
 use Rattle.route.specs.Walker.{headingOf, ahead, standing, nextOf, stepped, Free}
 use Rattle.route.specs.Marked.{indexesOf}
@@ -25,11 +24,11 @@ use Rattle.route.proofs.Turns.{passing, Visit, bends, trail}
 
 -- ---- the step list
 
-module _ (r : Route) (full : length (r .steps) ≡ 128) (held : r .count ≤ 128) where
+module _ (r : Route) (held : r .count ≤ length (r .steps)) where
   -- there are as many steps as the route counts
   pub steps-length : length (stepsOf r) ≡ r .count
   unfolding stepsOf
-  steps-length = length-map (take (r .count) (r .steps)) dirOf ∙ length-take-le (r .count) (r .steps) (omega arith)
+  steps-length = length-map (take (r .count) (r .steps)) dirOf ∙ length-take-le (r .count) (r .steps) held
 
   -- step i
   step-at : (i : ℕ) → i < r .count → getD (stepsOf r) i hor ≡ dirOf (getD (r .steps) i 0)
@@ -50,7 +49,6 @@ taken d r w = steps d (take (w .at) (stepsOf r))
 
 -- a walker that stands on the route, where its steps lead
 pub record On (r : Route) (w : Walker) : Type 0 where
-  pub full : length (r .steps) ≡ 128
   pub grid : OnGrid numbered r
   pub passed : w .at ≤ r .count
   pub column : w .here .column ≡ at (columnsOf r) (taken hor r w)
@@ -73,57 +71,66 @@ few-steps r g =
     )
 
 module _ (r : Route) (w : Walker) (o : On r w) where
-  -- the walker stands in a column of the grid of indexes
-  pub column-in : w .here .column < 64
-  unfolding numbered
-  column-in = rw (o .column) (lane-in (r .right) _ _ _ (o .grid .columns-fit) (steps-take hor (w .at) (stepsOf r)))
+  -- the walker stands in a column of each grid of indexes that the route is on
+  pub column-below : (width height : ℕ) → OnGrid (indexed width height) r → w .here .column < width
+  unfolding indexed
+  column-below width height g = rw (o .column) (lane-in width (r .right) _ _ _ (g .columns-fit) (steps-take hor (w .at) (stepsOf r)))
 
   -- in a row of it
+  pub row-below : (width height : ℕ) → OnGrid (indexed width height) r → w .here .row < height
+  unfolding indexed
+  row-below width height g = rw (o .row) (lane-in height (r .up) _ _ _ (g .rows-fit) (steps-take ver (w .at) (stepsOf r)))
+
+  -- in one of 64 columns
+  pub column-in : w .here .column < 64
+  unfolding numbered indexed
+  column-in = column-below 64 64 (o .grid)
+
+  -- and of 64 rows
   pub row-in : w .here .row < 64
-  unfolding numbered
-  row-in = rw (o .row) (lane-in (r .up) _ _ _ (o .grid .rows-fit) (steps-take ver (w .at) (stepsOf r)))
+  unfolding numbered indexed
+  row-in = row-below 64 64 (o .grid)
 
   -- its route has few steps
   pub on-few : r .count ≤ 126
-  on-few = omega (arith, few-steps r (o .grid), steps-length r (o .full) (o .grid .held))
+  on-few = omega (arith, few-steps r (o .grid), steps-length r (o .grid .held))
 
   module _ (h : w .at < r .count) where
     -- its next step leads to a line of the grid
-    pub can-step : Free r (nextOf r w) (w .here)
+    pub can-step : Free (r .right) (r .up) (nextOf r w) (w .here)
     unfolding numbered
-    can-step = go (nextOf r w) (taken-next r (o .full) (o .grid .held) (w .at) h)
+    can-step = go (nextOf r w) (taken-next r (o .grid .held) (w .at) h)
       where
         before : (d : Dir) → take (suc (w .at)) (stepsOf r) ≡ take (w .at) (stepsOf r) ++ d ∷ [] → taken d r w < steps d (stepsOf r)
         before d e = omega (arith, ap (steps d) e, step-along d (take (w .at) (stepsOf r)), steps-take d (suc (w .at)) (stepsOf r))
 
-        go : (d : Dir) → take (suc (w .at)) (stepsOf r) ≡ take (w .at) (stepsOf r) ++ d ∷ [] → Free r d (w .here)
+        go : (d : Dir) → take (suc (w .at)) (stepsOf r) ≡ take (w .at) (stepsOf r) ++ d ∷ [] → Free (r .right) (r .up) d (w .here)
         go hor e = rw (o .column) (lane-room (r .right) _ _ _ (o .grid .columns-fit) (before hor e))
         go ver e = rw (o .row) (lane-room (r .up) _ _ _ (o .grid .rows-fit) (before ver e))
 
     -- it leads to the vertex that the walker is said to be at
     next-column : (d : Dir) → take (suc (w .at)) (stepsOf r) ≡ take (w .at) (stepsOf r) ++ d ∷ []
-        → ahead r d (w .here) .column ≡ at (columnsOf r) (steps hor (take (suc (w .at)) (stepsOf r)))
+        → ahead (r .right) (r .up) d (w .here) .column ≡ at (columnsOf r) (steps hor (take (suc (w .at)) (stepsOf r)))
     next-column hor e = rw (e, step-along hor (take (w .at) (stepsOf r)), o .column) (sym (lane-following (r .right) _ _ _))
     next-column ver e = rw (e, step-across hor (take (w .at) (stepsOf r)), o .column)
 
     -- in its row
     next-row : (d : Dir) → take (suc (w .at)) (stepsOf r) ≡ take (w .at) (stepsOf r) ++ d ∷ []
-        → ahead r d (w .here) .row ≡ at (rowsOf r) (steps ver (take (suc (w .at)) (stepsOf r)))
+        → ahead (r .right) (r .up) d (w .here) .row ≡ at (rowsOf r) (steps ver (take (suc (w .at)) (stepsOf r)))
     next-row hor e = rw (e, step-across ver (take (w .at) (stepsOf r)), o .row)
     next-row ver e = rw (e, step-along ver (take (w .at) (stepsOf r)), o .row) (sym (lane-following (r .up) _ _ _))
 
     -- so the walker stands on the route after the step
     on-next : On r (stepped r w .walker)
     on-next =
-        let e = taken-next r (o .full) (o .grid .held) (w .at) h in
-        record { full = o .full; grid = o .grid; passed = h; column = next-column (nextOf r w) e; row = next-row (nextOf r w) e }
+        let e = taken-next r (o .grid .held) (w .at) h in
+        record { grid = o .grid; passed = h; column = next-column (nextOf r w) e; row = next-row (nextOf r w) e }
 
 -- the walker that has not moved stands on the route
-pub on-start : (r : Route) → length (r .steps) ≡ 128 → OnGrid numbered r → On r (standing r)
+pub on-start : (r : Route) → OnGrid numbered r → On r (standing (r .start))
 unfolding steps
-on-start r f g =
+on-start r g =
     record {
-      full = f;
       grid = g;
       passed = omega arith;
       column = lane-start (r .right) (r .start .column) (steps hor (stepsOf r));
@@ -207,10 +214,10 @@ here-at r w o = λ k. record { x = o .column k; y = o .row k }
 pub visits-trail : (n : ℕ) (r : Route) (w : Walker) → On r w → w .at + n ≡ r .count
     → visitsIn n r w ≡ trail (vertexAt r) (taken hor r w) (taken ver r w) (w .heading) (drop (w .at) (stepsOf r))
 visits-trail zero r w o h =
-    rw (drop-of-length-le (stepsOf r) {i = w .at} (omega (arith, steps-length r (o .full) (o .grid .held))), here-at r w o)
+    rw (drop-of-length-le (stepsOf r) {i = w .at} (omega (arith, steps-length r (o .grid .held))), here-at r w o)
 visits-trail (suc n) r w o h =
     let k : w .at < r .count = omega arith in
-    go (nextOf r w) (taken-next r (o .full) (o .grid .held) (w .at) k) (rest-next r (o .full) (o .grid .held) (w .at) k) (visitsIn n r (stepped r w .walker))
+    go (nextOf r w) (taken-next r (o .grid .held) (w .at) k) (rest-next r (o .grid .held) (w .at) k) (visitsIn n r (stepped r w .walker))
     (visits-trail n r (stepped r w .walker) (on-next r w o k) (omega arith))
   where
     go : (d : Dir) → take (suc (w .at)) (stepsOf r) ≡ take (w .at) (stepsOf r) ++ d ∷ [] → drop (w .at) (stepsOf r) ≡ d ∷ drop (suc (w .at)) (stepsOf r)

@@ -1,9 +1,9 @@
--- Marks that find pits: a byte for each vertex of the grid of indexes, of two binary digits. The lower is set where a route turns, ends or passes
--- along the row, the upper where one turns, ends or passes along the column. At a pit both are.
+-- Marks that find pits: a byte for each vertex of a grid of indexes, row by row, of two binary digits. The lower is set where a route turns, ends
+-- or passes along the row, the upper where one turns, ends or passes along the column. At a pit both are.
 use mathlib.Core.Path.{_≡_}
 use mathlib.Core.Bool.{Bool, true, false, cond, _&&_, _||_}
 use mathlib.Core.List.{List, [], _∷_}
-use Prim.Native.Nat.{ℕ, _+_, _*_, _<_}
+use Prim.Native.Nat.{ℕ, _+_, _*_, _≤_, _<_}
 use lib.ListN.{length, getD}
 use lib.Dec.{eqb}
 use Rattle.network.specs.Lists.{any, count, each}
@@ -17,26 +17,31 @@ use Rattle.route.specs.declared.Vertex.{Vertex}
 abbrev pub indexesOf : Vertex → Point
 indexesOf v = record { x = v .column; y = v .row }
 
-abbrev pub markOf : Point → ℕ
-markOf p = p .y * 64 + p .x
+-- where the mark of a vertex stands, with so many marks a row
+abbrev pub markOf : (width : ℕ) → Point → ℕ
+markOf width p = p .y * width + p .x
 
 -- the byte of two digits
 abbrev pub digits : Bool → Bool → ℕ
 digits lower upper = cond upper 2 0 + cond lower 1 0
 
--- the digits set are those that a test tells: hor the lower, ver the upper
-pub record Marked (marks : List ℕ) (set : Dir → Point → Bool) : Type 0 where
-  pub size : length marks ≡ 4096
-  pub marked : (p : Point) → p .x < 64 → p .y < 64 → getD marks (markOf p) 0 ≡ digits (set hor p) (set ver p)
+-- no digit is set
+abbrev pub Clear : List ℕ → Type 0
+Clear marks = (k : ℕ) → k < length marks → getD marks k 0 ≡ 0
+
+-- there are marks for so many columns and rows, and the digits set are those that a test tells: hor the lower, ver the upper
+pub record Marked (width height : ℕ) (marks : List ℕ) (set : Dir → Point → Bool) : Type 0 where
+  pub size : height * width ≤ length marks
+  pub marked : (p : Point) → p .x < width → p .y < height → getD marks (markOf width p) 0 ≡ digits (set hor p) (set ver p)
 
 -- how many vertices have both digits set
-unfoldable pub full : List ℕ → ℕ
-full marks = count (λ p. eqb (getD marks (markOf p) 0) 3) (each 64 (λ i. each 64 (λ j. record { x = i; y = j } ∷ [])))
+unfoldable pub full : (width height : ℕ) → List ℕ → ℕ
+full width height marks = count (λ p. eqb (getD marks (markOf width p) 0) 3) (each width (λ i. each height (λ j. record { x = i; y = j } ∷ [])))
 
 -- from the marks ms to ns the digits of `added` were set, and n pits came
-pub record Counted (ms ns : List ℕ) (added : Dir → Point → Bool) (n : ℕ) : Type 0 where
-  pub marked : (set : Dir → Point → Bool) → Marked ms set → Marked ns (λ d p. set d p || added d p)
-  pub new : (set : Dir → Point → Bool) → Marked ms set → full ns ≡ full ms + n
+pub record Counted (width height : ℕ) (ms ns : List ℕ) (added : Dir → Point → Bool) (n : ℕ) : Type 0 where
+  pub marked : (set : Dir → Point → Bool) → Marked width height ms set → Marked width height ns (λ d p. set d p || added d p)
+  pub new : (set : Dir → Point → Bool) → Marked width height ms set → full width height ns ≡ full width height ms + n
 
 -- the two directions are one
 abbrev pub along : Dir → Dir → Bool

@@ -13,7 +13,20 @@ use Rattle.network.specs.Entries.{below-rises}
 use Rattle.network.specs.Steps.{Dir, hor, ver, steps, Lane, forth, back, Fits, drawn}
 use Rattle.network.specs.Route.{Route as Points}
 use Rattle.network.specs.Corners.{corners}
-use Rattle.route.specs.declared.Route.{Route}
+use Rattle.route.specs.declared.Vertex.{Vertex}
+use Rattle.route.specs.declared.Track.{Track}
+
+-- the first `count` of the steps, from `start` on, to higher or lower columns and rows
+pub record Route : Type 0 where
+  pub steps : List ℕ
+  pub count : ℕ
+  pub start : Vertex
+  pub right : Bool
+  pub up : Bool
+
+-- a track with its steps
+abbrev pub routeBy : List ℕ → Track → Route
+routeBy steps t = record { steps = steps; count = t .count; start = t .start; right = t .right; up = t .up }
 
 -- a step of 0 goes along the row, any other along the column
 abbrev pub dirOf : ℕ → Dir
@@ -41,7 +54,7 @@ drawnOf g r = drawn g (columnsOf r) (rowsOf r) (stepsOf r)
 
 -- the route's lines are lines of the grid
 pub record OnGrid (g : Grid) (r : Route) : Type 0 where
-  pub held : r .count ≤ 128
+  pub held : r .count ≤ length (r .steps)
   pub columns-fit : Fits (g .columns) (columnsOf r)
   pub rows-fit : Fits (g .rows) (rowsOf r)
 
@@ -51,9 +64,17 @@ pub record OnGrid (g : Grid) (r : Route) : Type 0 where
 unfoldable pub numbered : Grid
 numbered = record { columns = below 64; rows = below 64; columns-rise = below-rises 64; rows-rise = below-rises 64 }
 
+-- the same of any number of columns and rows
+unfoldable pub indexed : (width height : ℕ) → Grid
+indexed width height = record { columns = below width; rows = below height; columns-rise = below-rises width; rows-rise = below-rises height }
+
 -- a route's corners, in line indexes
 unfoldable pub cornersOf : Route → Points
 cornersOf r = corners (drawnOf numbered r)
+
+-- how many they are
+abbrev pub cornerCount : Route → ℕ
+cornerCount r = length (cornersOf r)
 
 -- ---- from indexes to points
 

@@ -6,10 +6,9 @@ use lib.ListN.{getD}
 use lib.Dec.{eqb}
 use Rattle.network.specs.Steps.{Dir, hor, ver}
 use Rattle.route.specs.declared.Vertex.{Vertex}
-use Rattle.route.specs.declared.Route.{Route}
 use Rattle.route.specs.declared.Walker.{Walker}
 use Rattle.route.specs.declared.Stepped.{Stepped}
-use Rattle.route.specs.Route.{dirOf}
+use Rattle.route.specs.Route.{Route, dirOf}
 
 -- the number of a direction
 abbrev pub headingOf : Dir → ℕ
@@ -22,13 +21,13 @@ following true i = suc i
 following false i = i - 1
 
 -- the vertex after v
-abbrev pub ahead : Route → Dir → Vertex → Vertex
-ahead r hor v = record { column = following (r .right) (v .column); row = v .row }
-ahead r ver v = record { column = v .column; row = following (r .up) (v .row) }
+abbrev pub ahead : (right up : Bool) → Dir → Vertex → Vertex
+ahead right up hor v = record { column = following right (v .column); row = v .row }
+ahead right up ver v = record { column = v .column; row = following up (v .row) }
 
 -- the walker that has not moved
-abbrev pub standing : Route → Walker
-standing r = record { at = 0; here = r .start; heading = 2 }
+abbrev pub standing : (start : Vertex) → Walker
+standing start = record { at = 0; here = start; heading = 2 }
 
 -- the direction of the walker's next step
 abbrev pub nextOf : Route → Walker → Dir
@@ -38,7 +37,7 @@ nextOf r w = dirOf (getD (r .steps) (w .at) 0)
 abbrev pub stepped : Route → Walker → Stepped
 stepped r w =
     record {
-      walker = record { at = suc (w .at); here = ahead r (nextOf r w) (w .here); heading = headingOf (nextOf r w) };
+      walker = record { at = suc (w .at); here = ahead (r .right) (r .up) (nextOf r w) (w .here); heading = headingOf (nextOf r w) };
       turned = not (eqb (headingOf (nextOf r w)) (w .heading));
     }
 
@@ -48,6 +47,6 @@ Room true i = suc i < 64
 Room false i = 0 < i
 
 -- there is a vertex after v
-abbrev pub Free : Route → Dir → Vertex → Type 0
-Free r hor v = Room (r .right) (v .column)
-Free r ver v = Room (r .up) (v .row)
+abbrev pub Free : (right up : Bool) → Dir → Vertex → Type 0
+Free right up hor v = Room right (v .column)
+Free right up ver v = Room up (v .row)

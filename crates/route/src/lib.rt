@@ -3,13 +3,15 @@
 ghost use mathlib.Core.Path.{_≡_};
 ghost use mathlib.Core.Bool.{_||_};
 ghost use mathlib.Core.List.{map};
-ghost use Prim.Native.Nat.{_<_, _≤_};
+ghost use Prim.Native.Nat.{ℕ, _+_, _*_, _/_, _<_, _≤_};
 ghost use lib.ListN.{length, getD, take};
 ghost use Rattle.network.specs.Lists.{All};
+ghost use Rattle.network.specs.Plane.{gap};
 ghost use Rattle.network.specs.Steps.{hor, ver};
-ghost use Rattle.route.specs.Route.{dirOf, numbered, OnGrid, cornersOf};
+ghost use Rattle.route.specs.Route.{dirOf, routeBy, numbered, indexed, OnGrid, cornersOf, cornerCount};
+ghost use Rattle.route.specs.Stored.{trackOf, tracksOf, routesIn, Stored};
 ghost use Rattle.route.specs.Walker.{headingOf, following, ahead, standing, stepped, Room, Free};
-ghost use Rattle.route.specs.Marked.{digits, Counted, along, visited, touched};
+ghost use Rattle.route.specs.Marked.{digits, Clear, Counted, along, visited, touched};
 ghost use Rattle.network.specs.Pits.{pitsOf};
 
 // Where a column and a row cross.
@@ -18,10 +20,9 @@ pub struct Vertex {
     pub row: usize,
 }
 
-// The first `count` of the steps, from `start` on: 0 goes along the row, any other along the column. `right` and `up` say whether the
-// indexes of the columns and of the rows rise.
-pub struct Route {
-    pub steps: [u8; 128],
+// A route without its steps, which stand in a slice: the first `count` of them, from `start` on. 0 goes along the row, any other along the
+// column. `right` and `up` say whether the indexes of the columns and of the rows rise.
+pub struct Track {
     pub count: usize,
     pub start: Vertex,
     pub right: bool,
@@ -41,6 +42,37 @@ pub struct Stepped {
     pub turned: bool,
 }
 
+// How many pits came with a route, and how many corners it has.
+pub struct Seen {
+    pub pits: usize,
+    pub corners: usize,
+}
+
+fn gap(a: u32, b: u32) -> usize
+    ensures { λ r. ⌜ (r ≡ gap a b) × (r < 4294967296) ⌝ }
+{
+    if a <= b {
+        (b - a) as usize
+    } else {
+        (a - b) as usize
+    }
+}
+
+// The track between two points, given by the indexes of their lines.
+pub fn track_of(x1: u32, y1: u32, x2: u32, y2: u32) -> Track
+    ensures { λ t. ⌜ t ≡ trackOf x1 y1 x2 y2 ⌝ }
+{
+    Track {
+        count: gap(x1, x2) + gap(y1, y2),
+        start: Vertex {
+            column: x1 as usize,
+            row: y1 as usize,
+        },
+        right: x1 <= x2,
+        up: y1 <= y2,
+    }
+}
+
 // The heading of a walker that has not moved. No step has it, so that the first step turns: a route's start is a corner.
 const STANDING: u8 = 2;
 
@@ -57,28 +89,28 @@ fn following(line: usize, rises: bool) -> usize
     if rises { line + 1 } else { line - 1 }
 }
 
-fn ahead(route: Route, step: u8, v: Vertex) -> Vertex
-    requires { ⌜ Free route (dirOf step) v ⌝ }
-    ensures { λ r. ⌜ r ≡ ahead route (dirOf step) v ⌝ }
+fn ahead(track: Track, step: u8, v: Vertex) -> Vertex
+    requires { ⌜ Free (track .right) (track .up) (dirOf step) v ⌝ }
+    ensures { λ r. ⌜ r ≡ ahead (track .right) (track .up) (dirOf step) v ⌝ }
 {
     if step == 0 {
         Vertex {
-            column: following(v.column, route.right),
+            column: following(v.column, track.right),
             row: v.row,
         }
     } else {
         Vertex {
             column: v.column,
-            row: following(v.row, route.up),
+            row: following(v.row, track.up),
         }
     }
 }
 
 impl Walker {
-    pub fn start(route: Route) -> Self
-        ensures { λ w. ⌜ w ≡ standing route ⌝ }
+    pub fn start(track: Track) -> Self
+        ensures { λ w. ⌜ w ≡ standing (track .start) ⌝ }
     {
-        let here = route.start;
+        let here = track.start;
         Walker {
             at: 0,
             here,
@@ -86,13 +118,14 @@ impl Walker {
         }
     }
 
-    pub fn step(self, route: Route) -> Stepped
-        requires { ⌜ (self .at < 128) × Free route (dirOf (getD (route .steps) (self .at) 0)) (self .here) ⌝ }
-        ensures { λ s. ⌜ s ≡ stepped route self ⌝ }
+    pub fn step(self, track: Track, steps: &[u8]) -> Stepped
+        requires { ⌜ (self .at < length (now steps))
+            × Free (track .right) (track .up) (dirOf (getD (now steps) (self .at) 0)) (self .here) ⌝ }
+        ensures { λ s. ⌜ s ≡ stepped (routeBy (now (steps .entry)) track) self ⌝ }
     {
         let at = self.at;
-        let step = route.steps[at];
-        let here = ahead(route, step, self.here);
+        let step = steps[at];
+        let here = ahead(track, step, self.here);
         let heading = heading_of(step);
         Stepped {
             walker: Walker {
@@ -103,23 +136,6 @@ impl Walker {
             turned: heading != self.heading,
         }
     }
-}
-
-// How many corners a route has.
-pub fn corner_count(route: Route) -> usize
-    requires { ⌜ OnGrid numbered route ⌝ }
-    ensures { λ n. ⌜ (n ≡ length (cornersOf route)) × (n ≤ 127) ⌝ }
-{
-    let mut w = Walker::start(route);
-    let mut n: usize = 1;
-    while w.at < route.count {
-        let s = w.step(route);
-        if s.turned {
-            n += 1;
-        }
-        w = s.walker;
-    }
-    n
 }
 
 // The digits of a mark: a route passes the vertex along its row, one along its column; at a pit both are set.
@@ -142,14 +158,15 @@ fn digits_of(corner: bool, heading: u8) -> u8
     }
 }
 
-// Marks a vertex of a route, and says 1 if it is a pit only now, else 0.
-fn mark(marks: &mut [u8; 4096], v: Vertex, corner: bool, heading: u8) -> usize
-    requires { ⌜ (v .column < 64) × (v .row < 64) ⌝ }
-    ensures { λ n. ⌜ Counted (now (marks .entry)) (now (marks .exit)) (visited v corner (dirOf heading)) n × (n ≤ 1) ⌝ }
+// Marks a vertex of a route, and says 1 if it is a pit only now, else 0. A row has `width` marks.
+fn mark(marks: &mut [u8], width: usize, v: Vertex, corner: bool, heading: u8) -> usize
+    requires { ⌜ (v .column < width) × (v .row * width + v .column < length (now marks)) ⌝ }
+    ensures { λ n. ⌜ ((height : ℕ) → v .row < height
+        → Counted width height (now (marks .entry)) (now (marks .exit)) (visited v corner (dirOf heading)) n) × (n ≤ 1) ⌝ }
 {
     let column = v.column;
     let row = v.row;
-    let k = row * 64 + column;
+    let k = row * width + column;
     let before = marks[k];
     let after = before | digits_of(corner, heading);
     marks[k] = after;
@@ -160,33 +177,61 @@ fn mark(marks: &mut [u8; 4096], v: Vertex, corner: bool, heading: u8) -> usize
     }
 }
 
-// Marks the vertices of a route, and says how many pits came.
-fn mark_route(marks: &mut [u8; 4096], route: Route) -> usize
-    requires { ⌜ OnGrid numbered route ⌝ }
-    ensures { λ n. ⌜ Counted (now (marks .entry)) (now (marks .exit)) (touched (cornersOf route)) n × (n ≤ 127) ⌝ }
+// Marks the vertices of a route, and counts the pits that came and the route's corners.
+fn mark_route(marks: &mut [u8], width: usize, track: Track, steps: &[u8]) -> Seen
+    requires { ⌜ OnGrid numbered (routeBy (now steps) track)
+        × OnGrid (indexed width (length (now marks) / width)) (routeBy (now steps) track) ⌝ }
+    ensures { λ s. ⌜ Counted width (length (now (marks .entry)) / width) (now (marks .entry)) (now (marks .exit))
+        (touched (cornersOf (routeBy (now (steps .entry)) track))) (s .pits)
+        × (s .pits ≤ 127) × (s .corners ≡ cornerCount (routeBy (now (steps .entry)) track)) ⌝ }
 {
-    let mut w = Walker::start(route);
-    let mut n: usize = 0;
-    while w.at < route.count {
-        let s = w.step(route);
-        n += mark(marks, w.here, s.turned, s.walker.heading);
+    let mut w = Walker::start(track);
+    let mut pits: usize = 0;
+    let mut corners: usize = 1;
+    while w.at < track.count {
+        let s = w.step(track, steps);
+        pits += mark(marks, width, w.here, s.turned, s.walker.heading);
+        if s.turned {
+            corners += 1;
+        }
         w = s.walker;
     }
-    n + mark(marks, w.here, true, 0)
+    pits += mark(marks, width, w.here, true, 0);
+    Seen { pits, corners }
 }
 
-// The pits of the first `count` routes: every vertex of a route is marked, and the pits that come are counted.
-pub fn pits(routes: [Route; 32], count: usize) -> usize
-    requires { ⌜ (count ≤ 32) × All (OnGrid numbered) (take count routes) ⌝ }
-    ensures { λ n. ⌜ (n ≡ pitsOf (map cornersOf (take count routes))) × (n ≤ 4064) ⌝ }
+// The pits of the first `count` routes, and the corners of each: every vertex of a route is marked, and the pits that come are counted. The steps
+// of route k stand in `routes` from k * stride on, and it leads from (x1[k], y1[k]) to (x2[k], y2[k]).
+pub fn mark_routes(
+    routes: &[u8],
+    stride: usize,
+    x1: &[u32; 32],
+    y1: &[u32; 32],
+    x2: &[u32; 32],
+    y2: &[u32; 32],
+    count: usize,
+    marks: &mut [u8],
+    width: usize,
+    corners: &mut [usize; 32],
+) -> usize
+    requires { ⌜ Stored (now routes) stride (tracksOf (now x1) (now y1) (now x2) (now y2)) count
+        × All (OnGrid (indexed width (length (now marks) / width))) (routesIn (now routes) stride (tracksOf (now x1) (now y1) (now x2) (now y2)) count)
+        × Clear (now marks) × (length (now corners) ≡ 32) ⌝ }
+    ensures { λ n. ⌜ (n ≡ pitsOf (map cornersOf
+        (routesIn (now (routes .entry)) stride (tracksOf (now (x1 .entry)) (now (y1 .entry)) (now (x2 .entry)) (now (y2 .entry))) count)))
+        × (n ≤ 4064) × (length (now (corners .exit)) ≡ 32)
+        × (take count (now (corners .exit)) ≡ map cornerCount
+        (routesIn (now (routes .entry)) stride (tracksOf (now (x1 .entry)) (now (y1 .entry)) (now (x2 .entry)) (now (y2 .entry))) count)) ⌝ }
 {
-    let mut marks = [0u8; 4096];
-    let mut n: usize = 0;
+    let mut pits: usize = 0;
     let mut i: usize = 0;
     while i < count {
-        let r = routes[i];
-        n += mark_route(&mut marks, r);
+        let track = track_of(x1[i], y1[i], x2[i], y2[i]);
+        let from = i * stride;
+        let seen = mark_route(marks, width, track, &routes[from..]);
+        corners[i] = seen.corners;
+        pits += seen.pits;
         i += 1;
     }
-    n
+    pits
 }

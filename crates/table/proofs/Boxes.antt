@@ -14,8 +14,7 @@ use lib.Seq.{getD-set-same, getD-set-other}
 use borrow.Author.Tests.{le-leb, lt-leb}
 use Rattle.intersection.specs.Sets.{has, pack}
 use Rattle.intersection.proofs.Digits.{pack-lt}
-use Rattle.table.specs.declared.side.Side.{Side}
-use Rattle.table.specs.Side.{firstOf, secondOf, covers, leafOn, leavesOn}
+use Rattle.table.specs.Side.{covers, leafOn, leavesOn}
 
 -- ---- boxes on one axis
 
@@ -94,20 +93,20 @@ pub bit-fits : (k x : ℕ) → k < 32 → x < 2 ^ k → 2 ^ k + x < 2 ^ 32
 bit-fits k x h l = let e = subst (λ (m : ℕ). m ≤ 2 ^ 32) (two-pow-succ k) (pow-mono h) in omega arith
 
 -- the sets of no runs are empty
-pub leaves-none : (s : Side) (leaves i : ℕ) → leavesOn s 0 leaves i ≡ 0
+pub leaves-none : (first second : List ℕ) (leaves i : ℕ) → leavesOn first second 0 leaves i ≡ 0
 unfolding leavesOn pack
-leaves-none s leaves i = refl
+leaves-none first second leaves i = refl
 
 -- one run more: its bit where it is a leaf whose box has the line
-pub leaves-more : (s : Side) (n leaves i : ℕ)
-    → leavesOn s (n + 1) leaves i ≡ cond (has leaves n && covers (firstOf s n) (secondOf s n) i) (2 ^ n) 0 + leavesOn s n leaves i
+pub leaves-more : (first second : List ℕ) (n leaves i : ℕ)
+    → leavesOn first second (n + 1) leaves i ≡ cond (has leaves n && covers (getD first n 0) (getD second n 0) i) (2 ^ n) 0 + leavesOn first second n leaves i
 unfolding leavesOn leafOn pack
-leaves-more s n leaves i = rw (add-one n)
+leaves-more first second n leaves i = rw (add-one n)
 
 -- a set of n runs has n digits
-pub leaves-lt : (s : Side) (n leaves i : ℕ) → leavesOn s n leaves i < 2 ^ n
+pub leaves-lt : (first second : List ℕ) (n leaves i : ℕ) → leavesOn first second n leaves i < 2 ^ n
 unfolding leavesOn
-leaves-lt s n leaves i = pack-lt (leafOn s leaves i) n
+leaves-lt first second n leaves i = pack-lt (leafOn first second leaves i) n
 
 -- ---- sets by a test
 

@@ -15,7 +15,7 @@ use Rattle.sharing.specs.Trace.{Move, State, settled, come, comeBest, comeFrom,
 use Rattle.sharing.proofs.Steps.{coord}
 use Rattle.sharing.proofs.Table.{from-far}
 use Rattle.sharing.proofs.Trace.{Ready, last-ready, next-ready}
-use Rattle.table.specs.declared.frame.Group.{Group}
+use Rattle.table.specs.Frame.{Group}
 use Rattle.table.specs.declared.trace.Taken.{Taken}
 use Rattle.table.specs.Rule.{many, lineAt, position, spot, dirNo, tableOf, ownSet, edgeAt, pair, unlessOwn, startOf, entered, pairAt, Ruled, figureOf}
 use Rattle.table.specs.Walk.{takenBy, chosen, beginsWith, beforeOf, arriveAt, upNo, shareNo, dirBy, moveBy, walk, begin, walked}
@@ -80,7 +80,7 @@ module _ (g : Group) (I : Instance) (D : Drawn g I) where
       at-edge d s t i = R d (suc s) t (omega (arith, many-is d, i .along)) (omega (arith, many-is (other d), i .across))
 
   -- and the figure is the instance's
-  pub figure-drawn : (words : List ℕ) → figureOf g words ≡ figure I (tableOf (g .w) words)
+  pub figure-drawn : (words : List ℕ) → figureOf (g .w) (g .h) words ≡ figure I (tableOf (g .w) words)
   unfolding figureOf figure all
   figure-drawn words =
       let x : pred (g .w) ≡ I .size hor = ap pred (D .wide) in

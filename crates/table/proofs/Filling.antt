@@ -15,7 +15,7 @@ use lib.Seq.{getD-set-same, getD-set-other}
 use Rattle.network.specs.Steps.{Dir, hor, ver, other}
 use Rattle.network.proofs.Tests.{cond-one}
 use Rattle.table.specs.declared.frame.Line.{Line}
-use Rattle.table.specs.declared.frame.Group.{Group}
+use Rattle.table.specs.Frame.{Group}
 use Rattle.table.specs.declared.fill.Pair.{Pair}
 use Rattle.table.specs.declared.fill.Cell.{Cell}
 use Rattle.table.specs.Rule.{many, lineAt, position, spot, dirNo, ownSet, edgeAt, pair, pairOf, edgeBy, ruleOf, startOf, entered, cellOf, pairAt, Ruled, figureOf, Fit, Beyond, four, enterOf, intoOf, Light, Near, cellIn}
@@ -474,16 +474,16 @@ position-last zero (suc h) hw hh = absurd (omega arith)
 position-last (suc w) (suc h) hw hh = omega (arith, suc-mul h (suc w))
 
 -- there is a last vertex, with four words
-pub last-fits : (g : Group) (words : List ℕ) → Fit g words → (1 ≤ g .h * g .w) × ((g .h * g .w - 1) * 4 + 3 < length words)
-last-fits g words f =
-    let e = position-lt (g .w) (g .h) (pred (g .w)) (pred (g .h)) (omega (arith, f .some-columns)) (omega (arith, f .some-rows)) in
-    (omega arith, omega (arith, f .room))
+pub last-fits : (w h : ℕ) (words : List ℕ) → 1 ≤ w → 1 ≤ h → h * w * 4 ≤ length words → (1 ≤ h * w) × ((h * w - 1) * 4 + 3 < length words)
+last-fits w h words a b room =
+    let e = position-lt w h (pred w) (pred h) (omega arith) (omega arith) in
+    (omega arith, omega arith)
 
 -- the figure is the largest word there, less the start's 1
-pub figure-is : (g : Group) (words : List ℕ) (n : ℕ) → Fit g words
-    → n ≡ max (max (getD words ((g .h * g .w - 1) * 4) 0) (getD words ((g .h * g .w - 1) * 4 + 2) 0)) (startOf (g .h * g .w - 1)) → pred n ≡ figureOf g words
+pub figure-is : (w h : ℕ) (words : List ℕ) (n : ℕ) → 1 ≤ w → 1 ≤ h
+    → n ≡ max (max (getD words ((h * w - 1) * 4) 0) (getD words ((h * w - 1) * 4 + 2) 0)) (startOf (h * w - 1)) → pred n ≡ figureOf w h words
 unfolding figureOf
-figure-is g words n f e = rw (← position-last (g .w) (g .h) (f .some-columns) (f .some-rows), add-zero ((g .h * g .w - 1) * 4), e)
+figure-is w h words n a b e = rw (← position-last w h a b, add-zero ((h * w - 1) * 4), e)
 
 -- ---- the cell that is handed on
 

@@ -1,19 +1,18 @@
 -- Laws of the frame's lines: counting forth and back, and the lines made of the sets and lengths of an axis.
 use mathlib.Core.Path.{_≡_, refl, _∙_}
 use mathlib.Core.List.{List}
-use Prim.Native.Nat.{ℕ, zero, suc, _+_, _-_, _≤_, _<_}
+use Prim.Native.Nat.{ℕ, zero, suc, _+_, _-_, _*_, _≤_, _<_}
 use native.Mathlib.Omega.{arith}
 use native.Mathlib.Decide.{decLt}
 use lib.Bits.{bitAnd}
-use lib.ListN.{length, getD, set}
+use lib.ListN.{length, getD, set, length-set}
 use lib.Seq.{getD-set-same, getD-set-other}
 use borrow.Author.Count.{below-more}
 use borrow.Author.Tests.{lt-ltb, le-ltb}
 use Rattle.network.specs.Plane.{gap}
-use Rattle.table.specs.declared.side.Side.{Side}
 use Rattle.table.specs.declared.frame.Line.{Line}
-use Rattle.table.specs.Side.{firstOf, secondOf, leavesOn}
-use Rattle.table.specs.Frame.{lineOf, lowerOf, blank, frameLine, FrameLines}
+use Rattle.table.specs.Side.{leavesOn, sideOf}
+use Rattle.table.specs.Frame.{lineIn, putLine, lineOf, lowerOf, frameLine, FrameLines}
 
 -- ---- counting
 
@@ -96,8 +95,53 @@ frame-same f g len n p q (suc i) h k l e =
     rw (e (lineOf p q (suc i)) (line-lt n p q (suc i) h k l), e (lineOf p q i) (line-lt n p q i h k (omega arith)))
 
 -- the lines made of the sets at the axis' lines are those of the centre's frame
-pub lines-are : (s : Side) (n leaves c p q : ℕ) (on : List ℕ) (l : List Line) → p ≡ firstOf s c → q ≡ secondOf s c → p < 64 → q < 64
-    → ((i : ℕ) → i < 64 → getD on i 0 ≡ leavesOn s n leaves i)
-    → ((i : ℕ) → i ≤ gap p q → getD l i blank ≡ frameLine (λ j. getD on j 0) (λ j. getD (s .len) j 0) p q i)
-    → FrameLines s n leaves c l
-lines-are s n leaves c p q on l e f h k sets made = rw (← e, ← f) (λ i b. made i b ∙ frame-same _ _ _ 64 p q i h k b sets)
+pub lines-are : (first second len : List ℕ) (n leaves c : ℕ) (on : List ℕ) (line : ℕ → Line) → getD first c 0 < 64 → getD second c 0 < 64
+    → ((i : ℕ) → i < 64 → getD on i 0 ≡ leavesOn first second n leaves i)
+    → ((i : ℕ) → i ≤ gap (getD first c 0) (getD second c 0) → line i ≡ frameLine (λ j. getD on j 0) (λ j. getD len j 0) (getD first c 0) (getD second c 0) i)
+    → FrameLines (sideOf first second len) n leaves c line
+lines-are first second len n leaves c on line h k sets made =
+    λ i b. made i b ∙ frame-same _ _ _ 64 (getD first c 0) (getD second c 0) i h k b sets
+
+-- ---- the array of lines
+
+-- it stays as long
+pub length-line : (t : List ℕ) (i : ℕ) (l : Line) → length (putLine t i l) ≡ length t
+unfolding putLine
+length-line t i l = simp length-set
+
+-- the line that is put in
+line-same : (t : List ℕ) (i : ℕ) (l : Line) → length t ≡ 192 → i < 64 → lineIn (putLine t i l) i ≡ l
+unfolding lineIn putLine
+line-same t i l h k =
+    let a = set t (i * 3) (l .on) in
+    let b = set a (i * 3 + 1) (l .into) in
+    let e : length b ≡ 192 = length-set a (i * 3 + 1) (l .into) ∙ length-set t (i * 3) (l .on) ∙ h in
+    let f : length a ≡ 192 = length-set t (i * 3) (l .on) ∙ h in
+    rw (
+      getD-set-other b (i * 3 + 2) (i * 3) (l .len) 0 (λ e. omega arith),
+      getD-set-other a (i * 3 + 1) (i * 3) (l .into) 0 (λ e. omega arith),
+      getD-set-same t (i * 3) (l .on) 0 (omega arith),
+      getD-set-other b (i * 3 + 2) (i * 3 + 1) (l .len) 0 (λ e. omega arith),
+      getD-set-same a (i * 3 + 1) (l .into) 0 (omega arith),
+      getD-set-same b (i * 3 + 2) (l .len) 0 (omega arith),
+    )
+
+-- and the others
+line-other : (t : List ℕ) (i j : ℕ) (l : Line) → (j ≡ i → ⊥) → lineIn (putLine t i l) j ≡ lineIn t j
+unfolding lineIn putLine
+line-other t i j l h =
+    let a = set t (i * 3) (l .on) in
+    let b = set a (i * 3 + 1) (l .into) in
+    let same : (k : ℕ) → (k ≡ i * 3 → ⊥) → (k ≡ i * 3 + 1 → ⊥) → (k ≡ i * 3 + 2 → ⊥) → getD (set b (i * 3 + 2) (l .len)) k 0 ≡ getD t k 0 =
+    λ k x y z. getD-set-other b (i * 3 + 2) k (l .len) 0 z ∙ getD-set-other a (i * 3 + 1) k (l .into) 0 y ∙ getD-set-other t (i * 3) k (l .on) 0 x in
+    rw (
+      same (j * 3) (λ e. omega arith) (λ e. omega arith) (λ e. omega arith),
+      same (j * 3 + 1) (λ e. omega arith) (λ e. omega arith) (λ e. omega arith),
+      same (j * 3 + 2) (λ e. omega arith) (λ e. omega arith) (λ e. omega arith),
+    )
+
+-- what holds of each line below i, and of the line that is put in at i, holds of each line below i + 1
+pub line-next : (t : List ℕ) (i : ℕ) (l : Line) → length t ≡ 192 → i < 64 → (P : ℕ → Line → Type 0) → ((j : ℕ) → j < i → P j (lineIn t j)) → P i l
+    → (j : ℕ) → j < i + 1 → P j (lineIn (putLine t i l) j)
+line-next t i l h k P all here =
+    below-more (λ j. P j (lineIn (putLine t i l) j)) i (λ j b. rw (line-other t i j l (λ e. omega arith)) (all j b)) (rw (line-same t i l h k) here)

@@ -28,10 +28,8 @@ use Rattle.sharing.proofs.Owners.{Lies, EdgeIn, lies-in, in-lies}
 use Rattle.sharing.proofs.Centre.{lies-leaf, separate, leaf-owner, no-owner}
 use Rattle.intersection.specs.Sets.{has}
 use Rattle.intersection.proofs.Digits.{has-and, has-power, has-pack, none-has, same-set, trailing-below, trailing-at}
-use Rattle.table.specs.declared.side.Side.{Side}
-use Rattle.table.specs.declared.frame.Group.{Group}
-use Rattle.table.specs.Side.{Placed, covers, leafOn, leavesOn}
-use Rattle.table.specs.Frame.{lineOf, lowerOf, frameLine, ahead, goesDown, crosses, Grouped}
+use Rattle.table.specs.Side.{Side, Placed, covers, leafOn, leavesOn}
+use Rattle.table.specs.Frame.{Group, lineOf, lowerOf, frameLine, ahead, goesDown, crosses, Grouped}
 use Rattle.table.specs.OnSides.{sideAt, firstAt, secondAt, OnSides, viewBy, boxBy}
 use Rattle.table.specs.Rule.{many, lineAt, ownSet, Fit}
 use Rattle.table.proofs.Boxes.{leaves-lt}
@@ -106,24 +104,24 @@ module _ (grid : Grid) (runs : List Run) (xs ys : Side) (c leaves : ℕ) (g : Gr
 
   -- the lines of the group
   frame-lines : (d : Dir) (i : ℕ) → i ≤ I .size d
-      → lineAt g d i ≡ frameLine (leavesOn (sideAt xs ys d) (length runs) leaves) (λ j. getD (sideAt xs ys d .len) j 0) (firstAt xs ys c d) (secondAt xs ys c d) i
+      → lineAt g d i ≡ frameLine (leavesOn (sideAt xs ys d .first) (sideAt xs ys d .second) (length runs) leaves) (λ j. getD (sideAt xs ys d .len) j 0) (firstAt xs ys c d) (secondAt xs ys c d) i
   frame-lines hor i h = G .columns i (omega (arith, size-is hor))
   frame-lines ver i h = G .rows i (omega (arith, size-is ver))
 
   -- the leaves on a line
   on-is : (d : Dir) (i k : ℕ) → k < length runs → i ≤ I .size d
-      → has (leavesOn (sideAt xs ys d) (length runs) leaves (lineOf (firstAt xs ys c d) (secondAt xs ys c d) i)) k
+      → has (leavesOn (sideAt xs ys d .first) (sideAt xs ys d .second) (length runs) leaves (lineOf (firstAt xs ys c d) (secondAt xs ys c d) i)) k
       ≡ meets grid runs c k && passes (box k) d (I .start d + i)
   unfolding leavesOn leafOn
   on-is d i k h l =
-      has-pack (leafOn (sideAt xs ys d) leaves (lineOf (firstAt xs ys c d) (secondAt xs ys c d) i)) (length runs) k h
+      has-pack (leafOn (sideAt xs ys d .first) (sideAt xs ys d .second) leaves (lineOf (firstAt xs ys c d) (secondAt xs ys c d) i)) (length runs) k h
       ∙ ap₂ _&&_ (S .is-leaf k h) (covers-is d k i h l)
 
   -- ---- the set of an edge
 
   -- the leaves on line i of the frame
   onAt : Dir → ℕ → ℕ
-  onAt d i = leavesOn (sideAt xs ys d) (length runs) leaves (lineOf (firstAt xs ys c d) (secondAt xs ys c d) i)
+  onAt d i = leavesOn (sideAt xs ys d .first) (sideAt xs ys d .second) (length runs) leaves (lineOf (firstAt xs ys c d) (secondAt xs ys c d) i)
 
   -- the group has them
   line-on : (d : Dir) (i : ℕ) → i ≤ I .size d → lineAt g d i .on ≡ onAt d i
@@ -143,7 +141,7 @@ module _ (grid : Grid) (runs : List Run) (xs ys : Side) (c leaves : ℕ) (g : Gr
   -- all of them are runs of the job
   own-lt : (d : Dir) (s t : ℕ) → suc s ≤ I .size d → t ≤ I .size (other d) → ownSet g d (suc s) t < 2 ^ length runs
   unfolding onAt
-  own-lt d s t h k = rw (own-is d s t h k) (lt-of-le-of-lt (and-le-l _ _) (leaves-lt (sideAt xs ys (other d)) (length runs) leaves _))
+  own-lt d s t h k = rw (own-is d s t h k) (lt-of-le-of-lt (and-le-l _ _) (leaves-lt (sideAt xs ys (other d) .first) (sideAt xs ys (other d) .second) (length runs) leaves _))
 
   -- run k's box has line i of the frame
   abbrev hits : Dir → ℕ → ℕ → Bool
@@ -189,7 +187,7 @@ module _ (grid : Grid) (runs : List Run) (xs ys : Side) (c leaves : ℕ) (g : Gr
       → ahead (v .flip hor) a b ≡ ltb (numbered v hor a) (numbered v hor b) = axis-ahead (v .flip hor) (length (lines grid hor)) in
       let y : (a b : ℕ) → a < length (lines grid ver) → b < length (lines grid ver)
       → ahead (v .flip ver) a b ≡ ltb (numbered v ver a) (numbered v ver b) = axis-ahead (v .flip ver) (length (lines grid ver)) in
-      ap (λ m. has m k) (G .crossing) ∙ has-pack (crosses xs ys c) (length runs) k h
+      ap (λ m. has m k) (G .crossing) ∙ has-pack (crosses (xs .first) (xs .second) (ys .first) (ys .second) c) (length runs) k h
       ∙ rw (
         x (firstAt xs ys k hor) (secondAt xs ys k hor) (first-lt hor k h) (second-lt hor k h),
         x (secondAt xs ys k hor) (firstAt xs ys k hor) (second-lt hor k h) (first-lt hor k h),
@@ -276,7 +274,7 @@ line-short on len p q zero h = omega arith
 line-short on len p q (suc i) h = h (lowerOf p q i)
 
 -- the group of runs whose edges are no longer than 2,000,000 suits work words in which its table has room
-pub group-fit : (g : Group) (xs ys : Side) (n c leaves : ℕ) (words : List ℕ) → Grouped xs ys n c leaves g → Placed xs n → Placed ys n → c < n
+pub group-fit : (g : Group) (xs ys : Side) (n c leaves : ℕ) (words : List ℕ) → Grouped xs ys n c leaves g → Placed (xs .first) (xs .second) n → Placed (ys .first) (ys .second) n → c < n
     → ((d : Dir) (i : ℕ) → getD (sideAt xs ys d .len) i 0 ≤ 2000000) → g .h * g .w * 4 ≤ length words → Fit g words
 group-fit g xs ys n c leaves words G X Y h short room =
     let x = gap-lt 64 (firstAt xs ys c hor) (secondAt xs ys c hor) (X c h .0) (X c h .1) in
@@ -291,6 +289,6 @@ group-fit g xs ys n c leaves words G X Y h short room =
     }
   where
     lines-at : (d : Dir) (i : ℕ) → i ≤ gap (firstAt xs ys c d) (secondAt xs ys c d)
-        → lineAt g d i ≡ frameLine (leavesOn (sideAt xs ys d) n leaves) (λ j. getD (sideAt xs ys d .len) j 0) (firstAt xs ys c d) (secondAt xs ys c d) i
+        → lineAt g d i ≡ frameLine (leavesOn (sideAt xs ys d .first) (sideAt xs ys d .second) n leaves) (λ j. getD (sideAt xs ys d .len) j 0) (firstAt xs ys c d) (secondAt xs ys c d) i
     lines-at hor i b = G .columns i b
     lines-at ver i b = G .rows i b

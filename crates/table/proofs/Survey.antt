@@ -28,12 +28,10 @@ use Rattle.network.specs.Entries.{length-table, getD-table}
 use Rattle.grid.proofs.Places.{position-line, axis-lengths}
 use Rattle.grid.proofs.Hanan.{length-runs, run-at, columns-are, rows-are, axis-columns, axis-rows, run-placed, length-within}
 use Rattle.intersection.specs.Sets.{has}
-use Rattle.table.specs.declared.side.Side.{Side}
-use Rattle.table.specs.declared.frame.Group.{Group}
-use Rattle.table.specs.Side.{Sided, firstOf, secondOf}
+use Rattle.table.specs.Side.{Side, Sided, firstOf, secondOf}
 use Rattle.table.specs.Side
 use Rattle.table.specs.OnSides.{sideAt, firstAt, secondAt, OnSides, viewBy, boxBy}
-use Rattle.table.specs.Frame.{Grouped}
+use Rattle.table.specs.Frame.{Group, Grouped}
 use Rattle.table.specs.Rule.{tableOf, Ruled, figureOf}
 use Rattle.table.specs.Walk.{walked}
 use Rattle.table.proofs.Drawn.{ruled-exact, figure-drawn, walked-trace}
@@ -154,7 +152,7 @@ module _ (grid : Grid) (runs : List Run) (xs ys : Side) (c leaves : ℕ) (S : On
   star-exact = ruled-exact g _ (group-drawn grid runs xs ys c leaves g S G C) words R
 
   -- what `figure_of` answers is the star's figure
-  pub star-figure : figureOf g words ≡ figure (starOf (viewBy grid xs ys c) runs (boxBy grid xs ys c) c) (tableOf (g .w) words)
+  pub star-figure : figureOf (g .w) (g .h) words ≡ figure (starOf (viewBy grid xs ys c) runs (boxBy grid xs ys c) c) (tableOf (g .w) words)
   star-figure = figure-drawn g _ (group-drawn grid runs xs ys c leaves g S G C) words
 
   -- THEOREM: the moves that `trace_of` answers are traced in it

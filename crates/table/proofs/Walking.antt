@@ -17,7 +17,7 @@ use Rattle.grid.specs.Tables.{table}
 use Rattle.intersection.specs.Sets.{members}
 use Rattle.intersection.proofs.Members.{lowest-is}
 use Rattle.table.specs.declared.frame.Line.{Line}
-use Rattle.table.specs.declared.frame.Group.{Group}
+use Rattle.table.specs.Frame.{Group}
 use Rattle.table.specs.declared.trace.Taken.{Taken}
 use Rattle.table.specs.Rule.{position, pairOf, edgeBy, Fit}
 use Rattle.table.specs.Walk.{beforeOf, arriveOf, arriveAt, upNo, shareNo, moveBy, walk, begin, moveAt}

@@ -10,8 +10,7 @@ use Rattle.network.specs.Steps.{Dir, hor, ver}
 use Rattle.sharing.specs.Box.{Box}
 use Rattle.sharing.specs.View.{lines, View, Indexed, viewOf, boxOf}
 use Rattle.intersection.specs.Sets.{has}
-use Rattle.table.specs.declared.side.Side.{Side}
-use Rattle.table.specs.Side.{firstOf, secondOf}
+use Rattle.table.specs.Side.{Side, firstOf, secondOf}
 
 -- the side of a direction
 abbrev pub sideAt : Side → Side → Dir → Side

@@ -10,11 +10,10 @@ use lib.ListN.{length, getD, set}
 use Rattle.network.specs.Steps.{Dir, hor, ver, other}
 use Rattle.sharing.specs.Table.{best, run, Table, plus}
 use Rattle.table.specs.declared.frame.Line.{Line}
-use Rattle.table.specs.declared.frame.Group.{Group}
 use Rattle.table.specs.declared.fill.Edge.{Edge}
 use Rattle.table.specs.declared.fill.Pair.{Pair}
 use Rattle.table.specs.declared.fill.Cell.{Cell}
-use Rattle.table.specs.Frame.{blank}
+use Rattle.table.specs.Frame.{Group}
 
 -- ---- the words
 
@@ -25,8 +24,8 @@ many g ver = g .h
 
 -- line i of them
 abbrev pub lineAt : Group → Dir → ℕ → Line
-lineAt g hor i = getD (g .cols) i blank
-lineAt g ver i = getD (g .rows) i blank
+lineAt g hor i = g .cols i
+lineAt g ver i = g .rows i
 
 -- the position of the vertex in column a and row b, with rows of w vertices
 unfoldable pub position : ℕ → ℕ → ℕ → ℕ
@@ -123,11 +122,11 @@ pairAt w words d s t = pair (tableOf w words d best s t) (tableOf w words d run 
 abbrev pub Ruled : Group → List ℕ → Type 0
 Ruled g words = (d : Dir) (s t : ℕ) → s < many g d → t < many g (other d) → pairAt (g .w) words d s t ≡ cellOf g words d s t
 
--- what the best walk to the last vertex shares
-unfoldable pub figureOf : Group → List ℕ → ℕ
-figureOf g words =
-    pred (max (max (tableOf (g .w) words hor best (pred (g .w)) (pred (g .h))) (tableOf (g .w) words ver best (pred (g .h)) (pred (g .w))))
-    (startOf (position (g .w) (pred (g .w)) (pred (g .h)))))
+-- what the best walk to the last vertex of w columns and h rows shares
+unfoldable pub figureOf : (w h : ℕ) → List ℕ → ℕ
+figureOf w h words =
+    pred (max (max (tableOf w words hor best (pred w) (pred h)) (tableOf w words ver best (pred h) (pred w)))
+    (startOf (position w (pred w) (pred h))))
 
 -- ---- filling
 

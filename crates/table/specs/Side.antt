@@ -10,7 +10,16 @@ use Rattle.grid.specs.declared.Axis.{Axis}
 use Rattle.grid.specs.Tables.{table, padded}
 use Rattle.grid.specs.Lines.{indexOf, lengthAt}
 use Rattle.intersection.specs.Sets.{has, pack}
-use Rattle.table.specs.declared.side.Side.{Side}
+
+-- the runs on one axis: the positions of their first and of their second points among the axis' lines, and the length of the edge from each line to the next
+pub record Side : Type 0 where
+  pub first : List ℕ
+  pub second : List ℕ
+  pub len : List ℕ
+
+-- the side that three arrays hold
+abbrev pub sideOf : List ℕ → List ℕ → List ℕ → Side
+sideOf first second len = record { first = first; second = second; len = len }
 
 -- l holds the positions of n values among the first m lines
 abbrev pub PlacesOf : List ℕ → ℕ → List ℕ → ℕ → List ℕ → Type 0
@@ -31,17 +40,17 @@ abbrev pub secondOf : Side → ℕ → ℕ
 secondOf s k = getD (s .second) k 0
 
 -- every position of the first n runs is that of one of 64 lines
-abbrev pub Placed : Side → ℕ → Type 0
-Placed s n = (k : ℕ) → k < n → (firstOf s k < 64) × (secondOf s k < 64)
+abbrev pub Placed : (first second : List ℕ) → ℕ → Type 0
+Placed first second n = (k : ℕ) → k < n → (getD first k 0 < 64) × (getD second k 0 < 64)
 
 -- a box from position p to position q has line i
 unfoldable pub covers : ℕ → ℕ → ℕ → Bool
 covers p q i = leb (min p q) i && leb i (max p q)
 
 -- run k is a leaf, and its box has line i
-unfoldable pub leafOn : Side → ℕ → ℕ → ℕ → Bool
-leafOn s leaves i k = has leaves k && covers (firstOf s k) (secondOf s k) i
+unfoldable pub leafOn : (first second : List ℕ) → ℕ → ℕ → ℕ → Bool
+leafOn first second leaves i k = has leaves k && covers (getD first k 0) (getD second k 0) i
 
 -- the leaves whose box has line i, of n runs
-unfoldable pub leavesOn : Side → ℕ → ℕ → ℕ → ℕ
-leavesOn s n leaves i = pack (leafOn s leaves i) n
+unfoldable pub leavesOn : (first second : List ℕ) → ℕ → ℕ → ℕ → ℕ
+leavesOn first second n leaves i = pack (leafOn first second leaves i) n

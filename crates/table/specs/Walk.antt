@@ -10,10 +10,9 @@ use Rattle.sharing.specs.Trace.{Share, alone, with, Move}
 use Rattle.grid.specs.Tables.{table}
 use Rattle.intersection.specs.Sets.{members}
 use Rattle.table.specs.declared.frame.Line.{Line}
-use Rattle.table.specs.declared.frame.Group.{Group}
 use Rattle.table.specs.declared.fill.Edge.{Edge}
 use Rattle.table.specs.declared.trace.Taken.{Taken}
-use Rattle.table.specs.declared.trace.Trace.{Trace}
+use Rattle.table.specs.Frame.{Group}
 use Rattle.table.specs.Rule.{lineAt, position, pairOf, edgeBy, unlessOwn}
 
 -- ---- one edge back
@@ -96,6 +95,16 @@ begin = record { ver = false; run = false; edge = record { best = 0; run = 0; ow
 -- move i of two arrays
 abbrev pub moveAt : List ℕ → List ℕ → ℕ → Move
 moveAt steps shares i = moveBy (getD steps i 0) (getD shares i 0)
+
+-- the centre's steps, from its first point on, 0 along the row and 1 along the column; and for each step the leaf with which it is shared, or 32
+pub record Trace : Type 0 where
+  pub steps : List ℕ
+  pub shares : List ℕ
+  pub count : ℕ
+
+-- the trace that two arrays hold
+abbrev pub traceOf : List ℕ → List ℕ → ℕ → Trace
+traceOf steps shares count = record { steps = steps; shares = shares; count = count }
 
 -- the moves that a trace holds, the first one first
 abbrev pub movesOf : Trace → List Move

@@ -1,10 +1,11 @@
 // The table of best sharing: four words a vertex, row after row, in the lent work words.
-use crate::frame::Group;
+use crate::frame::Frame;
 use crate::frame::Line;
 ghost use mathlib.Core.Path.{_≡_};
 ghost use Prim.Native.Nat.{pred, _+_, _-_, _*_, _^_, _≤_, _<_};
 ghost use lib.ListN.{length};
 ghost use Rattle.sharing.specs.Table.{plus};
+ghost use Rattle.table.specs.Frame.{groupOf};
 ghost use Rattle.table.specs.Rule.{pairOf, edgeBy, unlessOwn, ifOwn, ruleOf, startOf, Ruled, figureOf, Fit, Beyond, four, enterOf, intoOf, Light, Near, cellIn};
 
 // The edge along one direction that ends at a vertex: its two words, the set whose one member is its owner, and its length.
@@ -234,11 +235,10 @@ fn line_before(i: usize) -> usize
     if i == 0 { 0 } else { i - 1 }
 }
 
-// The table of the group, in the first 4 * h * w work words: the first row, then of each further row the first vertex and the others. Three loops in one
-// function: passed to a function for each row, the group would be copied for each row.
-pub fn fill(work: &mut [u32], g: Group)
-    requires { ⌜ Fit g (now work) ⌝ }
-    ensures { λ _. ⌜ Ruled g (now (work .exit)) × Beyond (now (work .entry)) (now (work .exit)) (g .h * g .w * 4) ⌝ }
+// The table of the group, in the first 4 * h * w work words: the first row, then of each further row the first vertex and the others.
+pub fn fill(work: &mut [u32], cols: &[u32; 192], rows: &[u32; 192], g: Frame)
+    requires { ⌜ Fit (groupOf (now cols) (now rows) g) (now work) ⌝ }
+    ensures { λ _. ⌜ Ruled (groupOf (now (cols .entry)) (now (rows .entry)) g) (now (work .exit)) × Beyond (now (work .entry)) (now (work .exit)) (g .h * g .w * 4) ⌝ }
 {
     let w = g.w;
     let h = g.h;
@@ -248,14 +248,14 @@ pub fn fill(work: &mut [u32], g: Group)
         hor: zero,
         ver: zero,
     };
-    let first = g.cols[0];
-    let base = g.rows[0];
+    let first = crate::frame::line_in(cols, 0);
+    let base = crate::frame::line_in(rows, 0);
     let mut lead = none;
     let mut p: usize = 0;
     while p < w {
         let j = line_before(p);
-        let col = g.cols[p];
-        let left = g.cols[j];
+        let col = crate::frame::line_in(cols, p);
+        let left = crate::frame::line_in(cols, j);
         let cell = vertex(work, w, p, 0, p, lead, col, left, base, base, cross);
         lead = cell;
         p += 1;
@@ -263,15 +263,15 @@ pub fn fill(work: &mut [u32], g: Group)
     let mut b: usize = 1;
     while b < h {
         let i = line_before(b);
-        let row = g.rows[b];
-        let below = g.rows[i];
+        let row = crate::frame::line_in(rows, b);
+        let below = crate::frame::line_in(rows, i);
         let mut last = vertex(work, w, 0, b, p, none, first, first, row, below, cross);
         p += 1;
         let mut a: usize = 1;
         while a < w {
             let j = line_before(a);
-            let col = g.cols[a];
-            let left = g.cols[j];
+            let col = crate::frame::line_in(cols, a);
+            let left = crate::frame::line_in(cols, j);
             let cell = inner_vertex(work, w, a, b, p, last, col, left, row, below, cross);
             last = cell;
             p += 1;
@@ -282,9 +282,9 @@ pub fn fill(work: &mut [u32], g: Group)
 }
 
 // What the best walk to the last vertex shares.
-pub fn figure_of(work: &[u32], g: Group) -> u32
-    requires { ⌜ Fit g (now work) ⌝ }
-    ensures { λ r. ⌜ r ≡ figureOf g (now (work .entry)) ⌝ }
+pub fn figure_of(work: &[u32], g: Frame) -> u32
+    requires { ⌜ (1 ≤ g .w) × (1 ≤ g .h) × (g .h * g .w * 4 ≤ length (now work)) ⌝ }
+    ensures { λ r. ⌜ r ≡ figureOf (g .w) (g .h) (now (work .entry)) ⌝ }
 {
     let p = g.h * g.w - 1;
     let i = p * 4;

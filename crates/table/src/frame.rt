@@ -1,13 +1,12 @@
 // The centre's frame: columns and rows counted from its first point to its second, with the sets of leaves from which the owner of an edge is found.
-use crate::side::Side;
 ghost use mathlib.Core.Path.{_≡_};
 ghost use mathlib.Core.Bool.{cond};
 ghost use Prim.Native.Nat.{ℕ, suc, _+_, _^_, _≤_, _<_};
-ghost use lib.ListN.{getD};
+ghost use lib.ListN.{length, getD};
 ghost use Rattle.network.specs.Plane.{gap};
 ghost use Rattle.intersection.specs.Sets.{pack};
-ghost use Rattle.table.specs.Side.{firstOf, secondOf, Placed};
-ghost use Rattle.table.specs.Frame.{lineOf, lowerOf, blank, frameLine, ahead, goesDown, crosses, FrameLines, Grouped};
+ghost use Rattle.table.specs.Side.{Placed, sideOf};
+ghost use Rattle.table.specs.Frame.{lineIn, putLine, groupOf, lineOf, lowerOf, frameLine, ahead, goesDown, crosses, FrameLines, Grouped};
 
 // A line of the frame: the leaves whose box has it, those whose box has the line before it too (none at the first line), and the length of the edge from that line.
 pub struct Line {
@@ -16,13 +15,33 @@ pub struct Line {
     pub len: u32,
 }
 
-// A centre and its leaves: w columns and h rows of the centre's frame, and the leaves that slope the other way than the centre.
-pub struct Group {
-    pub cols: [Line; 64],
-    pub rows: [Line; 64],
+// The size of a centre's frame, w columns and h rows, and the leaves that slope the other way than the centre.
+pub struct Frame {
     pub cross: u32,
     pub w: usize,
     pub h: usize,
+}
+
+// Line i of a frame, of which the array holds three words a line.
+pub fn line_in(t: &[u32; 192], i: usize) -> Line
+    requires { ⌜ i < 64 ⌝ }
+    ensures { λ r. ⌜ r ≡ lineIn (now (t .entry)) i ⌝ }
+{
+    Line {
+        on: t[i * 3],
+        into: t[i * 3 + 1],
+        len: t[i * 3 + 2],
+    }
+}
+
+// The array with line i in it.
+pub fn put_line(t: &mut [u32; 192], i: usize, l: Line)
+    requires { ⌜ (length (now t) ≡ 192) × (i < 64) ⌝ }
+    ensures { λ _. ⌜ now (t .exit) ≡ putLine (now (t .entry)) i l ⌝ }
+{
+    t[i * 3] = l.on;
+    t[i * 3 + 1] = l.into;
+    t[i * 3 + 2] = l.len;
 }
 
 // How far apart two positions are.
@@ -70,58 +89,52 @@ fn line_at(on: &[u32; 64], len: &[u32; 64], p: usize, q: usize, i: usize) -> Lin
     }
 }
 
-// The lines of the frame from position p to position q.
-fn frame_lines(on: &[u32; 64], len: &[u32; 64], p: usize, q: usize) -> [Line; 64]
-    requires { ⌜ (p < 64) × (q < 64) ⌝ }
-    ensures { λ r. ⌜ ((i : ℕ) → i ≤ gap p q → getD r i blank ≡ frameLine (λ j. getD (now (on .entry)) j 0) (λ j. getD (now (len .entry)) j 0) p q i) ⌝ }
+// The lines of the frame from position p to position q, and how many there are.
+fn frame_lines(on: &[u32; 64], len: &[u32; 64], p: usize, q: usize, t: &mut [u32; 192]) -> usize
+    requires { ⌜ (p < 64) × (q < 64) × (length (now t) ≡ 192) ⌝ }
+    ensures { λ r. ⌜ (length (now (t .exit)) ≡ 192) × (r ≡ suc (gap p q))
+        × ((i : ℕ) → i ≤ gap p q → lineIn (now (t .exit)) i ≡ frameLine (λ j. getD (now (on .entry)) j 0) (λ j. getD (now (len .entry)) j 0) p q i) ⌝ }
 {
-    let mut t = [Line {
-        on: 0,
-        into: 0,
-        len: 0,
-    }; 64];
     let last = gap(p, q);
     let mut i: usize = 0;
     while i <= last {
-        t[i] = line_at(on, len, p, q, i);
+        let l = line_at(on, len, p, q, i);
+        put_line(t, i, l);
         i += 1;
     }
-    t
+    i
 }
 
-// The lines of the centre's frame on one axis.
-fn lines_of(s: Side, n: usize, leaves: u32, centre: usize) -> [Line; 64]
-    requires { ⌜ (n ≤ 32) × Placed s n × (centre < n) ⌝ }
-    ensures { λ r. ⌜ FrameLines s n leaves centre r ⌝ }
+// The lines of the centre's frame on one axis, and how many there are.
+fn lines_of(
+    first: &[u32; 32],
+    second: &[u32; 32],
+    len: &[u32; 64],
+    n: usize,
+    leaves: u32,
+    centre: usize,
+    t: &mut [u32; 192],
+) -> usize
+    requires { ⌜ (n ≤ 32) × Placed (now first) (now second) n × (centre < n) × (length (now t) ≡ 192) ⌝ }
+    ensures { λ r. ⌜ (length (now (t .exit)) ≡ 192) × (r ≡ suc (gap (getD (now (first .entry)) centre 0) (getD (now (second .entry)) centre 0)))
+        × FrameLines (sideOf (now (first .entry)) (now (second .entry)) (now (len .entry))) n leaves centre (lineIn (now (t .exit))) ⌝ }
 {
-    let on = crate::side::leaves_on(s, n, leaves);
-    let len = s.len;
-    let p = crate::side::wide(s.first[centre]);
-    let q = crate::side::wide(s.second[centre]);
-    frame_lines(&on, &len, p, q)
-}
-
-// How many lines of one axis the centre's frame has.
-fn line_count(s: Side, n: usize, centre: usize) -> usize
-    requires { ⌜ (n ≤ 32) × Placed s n × (centre < n) ⌝ }
-    ensures { λ r. ⌜ r ≡ suc (gap (firstOf s centre) (secondOf s centre)) ⌝ }
-{
-    gap(
-        crate::side::wide(s.first[centre]),
-        crate::side::wide(s.second[centre]),
-    )
-        + 1
+    let mut on = [0u32; 64];
+    crate::side::leaves_on(first, second, n, leaves, &mut on);
+    let p = first[centre] as usize;
+    let q = second[centre] as usize;
+    frame_lines(&on, len, p, q, t)
 }
 
 // From position p to position q it goes ahead on an axis, which may be counted back.
-fn goes_ahead(back: bool, p: u8, q: u8) -> bool
+fn goes_ahead(back: bool, p: u32, q: u32) -> bool
     ensures { λ r. ⌜ r ≡ ahead back p q ⌝ }
 {
     if back { q < p } else { p < q }
 }
 
 // A run from (a, b) to (c, d), taken from its left end, goes down in the frame.
-fn goes_down(u: bool, v: bool, a: u8, b: u8, c: u8, d: u8) -> bool
+fn goes_down(u: bool, v: bool, a: u32, b: u32, c: u32, d: u32) -> bool
     ensures { λ r. ⌜ r ≡ goesDown u v a b c d ⌝ }
 {
     (goes_ahead(u, a, c) & goes_ahead(v, d, b)) | (goes_ahead(u, c, a) & goes_ahead(v, b, d))
@@ -136,16 +149,23 @@ fn with_bit(s: u32, k: usize, test: bool) -> u32
 }
 
 // The runs that go down in the frame of the centre.
-fn crossing(xs: Side, ys: Side, n: usize, centre: usize) -> u32
+fn crossing(
+    xfirst: &[u32; 32],
+    xsecond: &[u32; 32],
+    yfirst: &[u32; 32],
+    ysecond: &[u32; 32],
+    n: usize,
+    centre: usize,
+) -> u32
     requires { ⌜ (n ≤ 32) × (centre < n) ⌝ }
-    ensures { λ r. ⌜ r ≡ pack (crosses xs ys centre) n ⌝ }
+    ensures { λ r. ⌜ r ≡ pack (crosses (now (xfirst .entry)) (now (xsecond .entry)) (now (yfirst .entry)) (now (ysecond .entry)) centre) n ⌝ }
 {
-    let u = xs.second[centre] < xs.first[centre];
-    let v = ys.second[centre] < ys.first[centre];
+    let u = xsecond[centre] < xfirst[centre];
+    let v = ysecond[centre] < yfirst[centre];
     let mut s: u32 = 0;
     let mut k: usize = 0;
     while k < n {
-        let down = goes_down(u, v, xs.first[k], ys.first[k], xs.second[k], ys.second[k]);
+        let down = goes_down(u, v, xfirst[k], yfirst[k], xsecond[k], ysecond[k]);
         s = with_bit(s, k, down);
         k += 1;
     }
@@ -153,20 +173,27 @@ fn crossing(xs: Side, ys: Side, n: usize, centre: usize) -> u32
 }
 
 // The centre and its leaves, of n runs, in the centre's frame.
-pub fn group_of(xs: Side, ys: Side, n: usize, centre: usize, leaves: u32) -> Group
-    requires { ⌜ (n ≤ 32) × Placed xs n × Placed ys n × (centre < n) ⌝ }
-    ensures { λ r. ⌜ Grouped xs ys n centre leaves r ⌝ }
+pub fn group_of(
+    xfirst: &[u32; 32],
+    xsecond: &[u32; 32],
+    xlen: &[u32; 64],
+    yfirst: &[u32; 32],
+    ysecond: &[u32; 32],
+    ylen: &[u32; 64],
+    n: usize,
+    centre: usize,
+    leaves: u32,
+    cols: &mut [u32; 192],
+    rows: &mut [u32; 192],
+) -> Frame
+    requires { ⌜ (n ≤ 32) × Placed (now xfirst) (now xsecond) n × Placed (now yfirst) (now ysecond) n × (centre < n)
+        × (length (now cols) ≡ 192) × (length (now rows) ≡ 192) ⌝ }
+    ensures { λ r. ⌜ Grouped (sideOf (now (xfirst .entry)) (now (xsecond .entry)) (now (xlen .entry)))
+        (sideOf (now (yfirst .entry)) (now (ysecond .entry)) (now (ylen .entry))) n centre leaves (groupOf (now (cols .exit)) (now (rows .exit)) r)
+        × (length (now (cols .exit)) ≡ 192) × (length (now (rows .exit)) ≡ 192) ⌝ }
 {
-    let cols = lines_of(xs, n, leaves, centre);
-    let rows = lines_of(ys, n, leaves, centre);
-    let cross = crossing(xs, ys, n, centre);
-    let w = line_count(xs, n, centre);
-    let h = line_count(ys, n, centre);
-    Group {
-        cols,
-        rows,
-        cross,
-        w,
-        h,
-    }
+    let w = lines_of(xfirst, xsecond, xlen, n, leaves, centre, cols);
+    let h = lines_of(yfirst, ysecond, ylen, n, leaves, centre, rows);
+    let cross = crossing(xfirst, xsecond, yfirst, ysecond, n, centre);
+    Frame { cross, w, h }
 }

@@ -1,19 +1,13 @@
 // The walk back through the table: the centre's steps, and for each step the leaf with which it is shared.
 use crate::fill::Edge;
-use crate::frame::Group;
+use crate::frame::Frame;
 use crate::frame::Line;
 ghost use mathlib.Core.Path.{_≡_};
 ghost use Prim.Native.Nat.{pred, _+_, _-_, _*_, _≤_, _<_};
 ghost use lib.ListN.{length};
+ghost use Rattle.table.specs.Frame.{groupOf};
 ghost use Rattle.table.specs.Rule.{Fit};
-ghost use Rattle.table.specs.Walk.{takenBy, chosen, beginsWith, beforeOf, arriveOf, upNo, shareNo, movesOf, walked};
-
-// The centre's steps, from its first point on, 0 along the row and 1 along the column; and for each step the leaf with which it is shared, or 32.
-pub struct Trace {
-    pub steps: [u8; 128],
-    pub shares: [u8; 128],
-    pub count: usize,
-}
+ghost use Rattle.table.specs.Walk.{takenBy, chosen, beginsWith, beforeOf, arriveOf, upNo, shareNo, traceOf, movesOf, walked};
 
 // An edge of the walk: its direction, and if it is taken as part of a stretch with its owner.
 pub struct Taken {
@@ -113,18 +107,23 @@ fn share_no(t: Taken, cross: u32) -> u8
     (intersection::sets::lowest(e.own) % 256) as u8
 }
 
-// The walk that the table holds.
-pub fn trace_of(work: &[u32], g: Group) -> Trace
-    requires { ⌜ Fit g (now work) ⌝ }
-    ensures { λ r. ⌜ (movesOf r ≡ walked g (now (work .entry))) × (r .count ≡ pred (g .w) + pred (g .h)) ⌝ }
+// The walk that the table holds, and how many steps it has: the centre's steps, from its first point on, 0 along the row and 1 along the column; and for
+// each step the leaf with which it is shared, or 32.
+pub fn trace_of(
+    work: &[u32],
+    cols: &[u32; 192],
+    rows: &[u32; 192],
+    g: Frame,
+    steps: &mut [u8; 128],
+    shares: &mut [u8; 128],
+) -> usize
+    requires { ⌜ Fit (groupOf (now cols) (now rows) g) (now work) × (length (now steps) ≡ 128) × (length (now shares) ≡ 128) ⌝ }
+    ensures { λ r. ⌜ (movesOf (traceOf (now (steps .exit)) (now (shares .exit)) r) ≡ walked (groupOf (now (cols .entry)) (now (rows .entry)) g) (now (work .entry)))
+        × (r ≡ pred (g .w) + pred (g .h)) × (length (now (steps .exit)) ≡ 128) × (length (now (shares .exit)) ≡ 128) ⌝ }
 {
-    let w = g.w;
-    let cross = g.cross;
     let mut a = g.w - 1;
     let mut b = g.h - 1;
     let count = a + b;
-    let mut steps = [0u8; 128];
-    let mut shares = [0u8; 128];
     let none = Edge {
         best: 0,
         run: 0,
@@ -138,20 +137,16 @@ pub fn trace_of(work: &[u32], g: Group) -> Trace
     };
     let mut i = count;
     while 0 < i {
-        let col = g.cols[a];
-        let row = g.rows[b];
-        let u = arrive(work, b * w + a, col, row, t, cross);
+        let col = crate::frame::line_in(cols, a);
+        let row = crate::frame::line_in(rows, b);
+        let u = arrive(work, b * g.w + a, col, row, t, g.cross);
         let n = up_no(u.ver, a, b);
         i -= 1;
-        shares[i] = share_no(u, cross);
+        shares[i] = share_no(u, g.cross);
         steps[i] = (n % 256) as u8;
         a -= 1 - n;
         b -= n;
         t = u;
     }
-    Trace {
-        steps,
-        shares,
-        count,
-    }
+    count
 }

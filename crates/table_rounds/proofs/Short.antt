@@ -3,16 +3,15 @@ use mathlib.Core.List.{List}
 use Prim.Native.Nat.{ℕ, _≤_, _<_}
 use native.Mathlib.Omega.{arith}
 use native.Mathlib.Nat.{mul-le-mul}
-use lib.ListN.{length, getD}
+use lib.ListN.{length}
 use Rattle.network.specs.Steps.{Dir, hor, ver}
 use Rattle.table.specs.declared.frame.Line.{Line}
-use Rattle.table.specs.declared.frame.Group.{Group}
-use Rattle.table.specs.Frame.{blank}
+use Rattle.table.specs.Frame.{Group}
 use Rattle.table.specs.Rule.{many, lineAt, Fit}
 
 -- the first n lines are short
-abbrev pub Short : List Line → ℕ → Type 0
-Short lines n = (i : ℕ) → i < n → getD lines i blank .len ≤ 2000000
+abbrev pub Short : (ℕ → Line) → ℕ → Type 0
+Short lines n = (i : ℕ) → i < n → lines i .len ≤ 2000000
 
 -- a group of at most 64 short columns and rows fits 16,384 words
 pub fits : (g : Group) → Short (g .cols) 64 → Short (g .rows) 64 → (1 ≤ g .w) × (g .w ≤ 64) → (1 ≤ g .h) × (g .h ≤ 64)

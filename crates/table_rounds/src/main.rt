@@ -9,13 +9,13 @@
 //     778   64 rows, the same
 use libc::STDIN_FILENO;
 use libc::STDOUT_FILENO;
-use table::frame::Group;
+use table::frame::Frame;
 use table::frame::Line;
 ghost use mathlib.Core.Path.{_≡_};
 ghost use mathlib.Core.List.{List};
 ghost use Prim.Native.Nat.{ℕ, _+_, _≤_, _<_};
-ghost use lib.ListN.{length, getD};
-ghost use Rattle.table.specs.Frame.{blank};
+ghost use lib.ListN.{length};
+ghost use Rattle.table.specs.Frame.{lineIn, groupOf};
 ghost use Rattle.table.specs.Rule.{Fit};
 
 fn wide(b: u8) -> u32
@@ -37,21 +37,16 @@ fn line_at(bytes: &[u8; 1546], at: usize) -> Line
 }
 
 // The 64 lines from a place of the record on.
-fn lines_at(bytes: &[u8; 1546], at: usize) -> [Line; 64]
-    requires { ⌜ at + 768 ≤ 1546 ⌝ }
-    ensures { λ r. ⌜ ((i : ℕ) → i < 64 → getD r i blank .len ≤ 2000000) ⌝ }
+fn lines_at(bytes: &[u8; 1546], at: usize, lines: &mut [u32; 192])
+    requires { ⌜ (at + 768 ≤ 1546) × (length (now lines) ≡ 192) ⌝ }
+    ensures { λ _. ⌜ (length (now (lines .exit)) ≡ 192) × ((i : ℕ) → i < 64 → lineIn (now (lines .exit)) i .len ≤ 2000000) ⌝ }
 {
-    let mut lines = [Line {
-        on: 0,
-        into: 0,
-        len: 0,
-    }; 64];
     let mut i: usize = 0;
     while i < 64 {
-        lines[i] = line_at(bytes, at + 12 * i);
+        let line = line_at(bytes, at + 12 * i);
+        table::frame::put_line(lines, i, line);
         i += 1;
     }
-    lines
 }
 
 // The count at a place of the record.
@@ -62,13 +57,11 @@ fn count_at(bytes: &[u8; 1546], at: usize) -> usize
     1 + (bytes[at] % 64) as usize
 }
 
-// The group that the record holds: its table fits 16,384 words.
-fn group_of(bytes: &[u8; 1546]) -> Group
-    ensures { λ r. ⌜ ((words : List ℕ) → 16384 ≤ length words → Fit r words) ⌝ }
+// The frame that the record holds.
+fn frame_of(bytes: &[u8; 1546]) -> Frame
+    ensures { λ r. ⌜ ((1 ≤ r .w) × (r .w ≤ 64)) × ((1 ≤ r .h) × (r .h ≤ 64)) ⌝ }
 {
-    Group {
-        cols: lines_at(bytes, 10),
-        rows: lines_at(bytes, 778),
+    Frame {
         cross: job::le32(bytes, 6),
         w: count_at(bytes, 4),
         h: count_at(bytes, 5),
@@ -76,16 +69,18 @@ fn group_of(bytes: &[u8; 1546]) -> Group
 }
 
 // Fills and traces so many times. The sum has each walk's first step, which is found last.
-fn go_round(work: &mut [u32], g: Group, rounds: u32) -> u32
-    requires { ⌜ (16384 ≤ length (now work)) × ((words : List ℕ) → 16384 ≤ length words → Fit g words) ⌝ }
+fn go_round(work: &mut [u32], cols: &[u32; 192], rows: &[u32; 192], g: Frame, rounds: u32) -> u32
+    requires { ⌜ (16384 ≤ length (now work)) × ((words : List ℕ) → 16384 ≤ length words → Fit (groupOf (now cols) (now rows) g) words) ⌝ }
     ensures { λ _. ⌜ length (now (work .exit)) ≡ length (now (work .entry)) ⌝ }
 {
+    let mut steps = [0u8; 128];
+    let mut shares = [0u8; 128];
     let mut sum: u32 = 0;
     let mut i: u32 = 0;
     while i < rounds {
-        table::fill::fill(work, g);
-        let t = table::trace::trace_of(&*work, g);
-        sum = (sum + wide(t.shares[0]) + 64 * wide(t.steps[0])) % 65536;
+        table::fill::fill(work, cols, rows, g);
+        table::trace::trace_of(&*work, cols, rows, g, &mut steps, &mut shares);
+        sum = (sum + wide(shares[0]) + 64 * wide(steps[0])) % 65536;
         i += 1;
     }
     sum
@@ -102,8 +97,12 @@ fn main() {
     let mut bytes = [0u8; 1546];
     io::read_full(STDIN_FILENO, &mut bytes);
     let rounds = job::le32(&bytes, 0) % 1048576;
-    let g = group_of(&bytes);
+    let mut cols = [0u32; 192];
+    let mut rows = [0u32; 192];
+    lines_at(&bytes, 10, &mut cols);
+    lines_at(&bytes, 778, &mut rows);
+    let g = frame_of(&bytes);
     let mut work = [0u32; 16384];
-    let sum = go_round(&mut work, g, rounds);
+    let sum = go_round(&mut work, &cols, &rows, g, rounds);
     print(table::fill::figure_of(&work, g), sum);
 }

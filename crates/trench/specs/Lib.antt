@@ -2,4 +2,5 @@
 pub mod Words
 pub mod Told
 pub mod Jobs
+pub mod Needed
 pub mod Chosen

@@ -1,4 +1,4 @@
-// The functions for C: planning a job for the map screen, writing a job book from its runs, reading a plan book, and choosing between two of them.
+// The functions for C: what planning a job needs, planning it, writing a job book from its runs, reading a plan book, and choosing between two of them.
 // include/trench.h says what each is lent and leaves.
 use book::Answer;
 use book::Figures;
@@ -6,19 +6,46 @@ use book::Route;
 use book::Spot;
 use choice::Choice;
 use job_writer::Outcome;
+use planner::Foretold;
 ghost use mathlib.Core.Path.{_≡_};
+ghost use Prim.Native.Nat.{ℕ};
 ghost use lib.ListN.{length};
 ghost use Rattle.job.specs.Reading.{placeSaid};
 ghost use Rattle.job_writer.specs.Call.{callOf};
-ghost use Rattle.planner.specs.Verdict.{verdict};
-ghost use Rattle.planner.specs.Outcome.{MapOutcome};
+ghost use Rattle.planner.specs.Verdict.{forecastOf, verdict};
+ghost use Rattle.planner.specs.Outcome.{MapOutcome, LentOutcome};
 ghost use Rattle.book.specs.Parse.{parsePlan};
 ghost use Rattle.book.specs.Reading.{figuresOf, placesOf, routeBy, cornerBy};
 ghost use Rattle.choice.specs.Choice.{choiceOf, placeOf as choicePlace};
 ghost use Rattle.trench.specs.Words.{Filled};
 ghost use Rattle.trench.specs.Jobs.{outcomeCode, outcomePlace};
+ghost use Rattle.trench.specs.Needed.{wordsCode, bytesCode};
 ghost use Rattle.trench.specs.Told.{codeOf, placeOf, kindOf, figureWords, routeWords, spotWords};
 ghost use Rattle.trench.specs.Chosen.{choiceCode};
+
+// The work words that planning a job needs, or minus the refusal number.
+#[no_mangle]
+pub extern "C" fn trench_words(job: &[u8]) -> i32
+    ensures { λ r. ⌜ r ≡ wordsCode (forecastOf (now (job .entry))) ⌝ }
+{
+    let told = planner::forecast(job);
+    match told {
+        Foretold::Needs(words, bytes) => planner::codes::length_code(words),
+        Foretold::Refused(refusal) => planner::codes::code_of(refusal),
+    }
+}
+
+// The bytes of a plan buffer that planning a job needs, or minus the refusal number.
+#[no_mangle]
+pub extern "C" fn trench_bytes(job: &[u8]) -> i32
+    ensures { λ r. ⌜ r ≡ bytesCode (forecastOf (now (job .entry))) ⌝ }
+{
+    let told = planner::forecast(job);
+    match told {
+        Foretold::Needs(words, bytes) => planner::codes::length_code(bytes),
+        Foretold::Refused(refusal) => planner::codes::code_of(refusal),
+    }
+}
 
 // Plans a job: the plan's length, or minus the refusal number.
 #[no_mangle]
@@ -28,12 +55,20 @@ pub extern "C" fn trench_plan(job: &[u8], out: &mut [u8]) -> i32
     planner::plan_for_map(job, out)
 }
 
-// The place of the refusal of a job, with a plan buffer of so many bytes; 0 where it has none.
+// The same in lent work words.
 #[no_mangle]
-pub extern "C" fn trench_plan_place(job: &[u8], room: usize) -> usize
-    ensures { λ r. ⌜ r ≡ placeSaid (verdict (now (job .entry)) 16384 room) ⌝ }
+pub extern "C" fn trench_plan_in(job: &[u8], work: &mut [u32], out: &mut [u8]) -> i32
+    ensures { λ r. ⌜ LentOutcome (now (job .entry)) (now (work .entry)) (now (out .entry)) r (now (work .exit)) (now (out .exit)) ⌝ }
 {
-    planner::place_for_map(job, room)
+    planner::plan_in(job, work, out)
+}
+
+// The place of the refusal of a job, whatever is lent; 0 where it has none.
+#[no_mangle]
+pub extern "C" fn trench_plan_place(job: &[u8]) -> usize
+    ensures { λ r. ⌜ ((work out : ℕ) → r ≡ placeSaid (verdict (now (job .entry)) work out)) ⌝ }
+{
+    planner::place_for_map(job)
 }
 
 // Writes the job book of a number and a list of runs: its length, or minus the refusal number.

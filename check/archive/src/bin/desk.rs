@@ -5,11 +5,11 @@
 use std::io::{Read, Write};
 use std::process::ExitCode;
 
-use trench_archive::call::{Function, plan};
+use trench_archive::call;
 use trench_check::book::job_bytes;
 use trench_check::listing;
 use trench_check::plan_book::PlanBook;
-use trench_check::refusal::{PLAN_ROOM, Refusal, words};
+use trench_check::refusal::{Refusal, words};
 use trench_check::text::{self, Typed};
 
 const USAGE: &str = "\
@@ -70,15 +70,15 @@ fn written(file: &str) -> Result<(), Stop> {
 
 fn planned(file: &str) -> Result<(), Stop> {
     let typed = typed(file)?;
-    let mut out = vec![0; PLAN_ROOM];
-    let answer = plan(Function::Archive, &job_bytes(&typed.job), &mut out);
-    let Ok(length) = usize::try_from(answer) else {
-        // A text without errors is a well-formed job, so the refusal is 11, and its place is 0.
-        print(listing::of_refusal(Refusal { number: -answer, place: 0 }).as_bytes())?;
-        let why = if answer == -11 { text::why_no_star(&typed) } else { "the text was read wrongly".to_string() };
-        return Err((1, format!("{}: {why}", words(-answer))));
+    let plan = match call::planned(&job_bytes(&typed.job)) {
+        Ok(plan) => plan,
+        Err(answer) => {
+            // A text without errors is a well-formed job, so the refusal is 11, and its place is 0.
+            print(listing::of_refusal(Refusal { number: -answer, place: 0 }).as_bytes())?;
+            let why = if answer == -11 { text::why_no_star(&typed) } else { "the text was read wrongly".to_string() };
+            return Err((1, format!("{}: {why}", words(-answer))));
+        }
     };
-    let book =
-        PlanBook::read(&out[..length]).map_err(|fault| (2, format!("desk: the plan is no plan book: {fault}")))?;
+    let book = PlanBook::read(&plan).map_err(|fault| (2, format!("desk: the plan is no plan book: {fault}")))?;
     print(listing::of_plan(&book).as_bytes())
 }

@@ -5,8 +5,8 @@ use std::process::ExitCode;
 use std::time::{Instant, SystemTime, UNIX_EPOCH};
 
 use trench_archive::call::{
-    Against, BookChooser, Function, Guarded, GuardedChooser, GuardedReader, GuardedWriter, JobWriter, Reader, frame_of,
-    plan,
+    self, Against, BookChooser, Guarded, GuardedChooser, GuardedReader, GuardedWriter, JobWriter, Planner, Reader,
+    frame_of,
 };
 use trench_archive::ended;
 use trench_archive::program::{printed_by, table_figure};
@@ -22,7 +22,7 @@ use trench_check::plan_book::PlanBook;
 use trench_check::planner::plan_surveyed;
 use trench_check::random::Random;
 use trench_check::read_back::{try_books, try_plan_listing};
-use trench_check::refusal::{PLAN_ROOM, read, surveyed};
+use trench_check::refusal::{read, surveyed};
 use trench_check::report::{Report, Subject};
 use trench_check::write_job::try_lists;
 
@@ -63,7 +63,7 @@ fn main() -> ExitCode {
         ["--pairs", seed, from, to] => numbers(&[seed, from, to]).map(|n| pair_by_pair(n[0], n[1], n[2])),
         ["--crossed", jobs] => numbers(&[jobs]).map(|n| seeds(n[0], crossed)),
         ["--cuts", jobs] => numbers(&[jobs]).map(|n| seeds(n[0], cut)),
-        ["--table", ref rest @ ..] => numbers(rest).and_then(|numbers| planned(Function::Table, &numbers)),
+        ["--table", ref rest @ ..] => numbers(rest).and_then(|numbers| planned(Planner::Table, &numbers)),
         ["--plans", seed, from, to] => numbers(&[seed, from, to]).map(|n| plan_by_plan(n[0], n[1], n[2])),
         ref all => numbers(all).and_then(|numbers| compared(&numbers)),
     };
@@ -76,15 +76,15 @@ fn numbers(words: &[&str]) -> Option<Vec<u64>> {
 
 /// Compares the planner, and where a number of books is given the reader too.
 fn compared(numbers: &[u64]) -> Option<bool> {
-    let good = planned(Function::Archive, numbers)?;
+    let good = planned(Planner::Archive, numbers)?;
     let read = numbers.len() > 1 || seeds(numbers[0], many_plans);
     Some(good && read)
 }
 
-fn planned(function: Function, numbers: &[u64]) -> Option<bool> {
+fn planned(planner: Planner, numbers: &[u64]) -> Option<bool> {
     match *numbers {
-        [jobs] => Some(seeds(jobs, |seed, jobs| many(function, seed, jobs))),
-        [seed, from, to] => Some(one_by_one(function, seed, from, to)),
+        [jobs] => Some(seeds(jobs, |seed, jobs| many(planner, seed, jobs))),
+        [seed, from, to] => Some(one_by_one(planner, seed, from, to)),
         _ => None,
     }
 }
@@ -107,14 +107,14 @@ fn seeds(books: u64, attempt: impl Fn(u64, u64) -> Report) -> bool {
 }
 
 /// Tries the first jobs of a seed. The archive has to write every job again that it planned, and to hand its plan back.
-fn many(function: Function, seed: u64, jobs: u64) -> Report {
-    let mut report = on_two_threads(|from| try_cases(&mut Guarded::new(function, Against::Back), seed, from, jobs, 2));
+fn many(planner: Planner, seed: u64, jobs: u64) -> Report {
+    let mut report = on_two_threads(|from| try_cases(&mut Guarded::new(planner, Against::Back), seed, from, jobs, 2));
     let (again, planned) = (report.written_again, report.accepted.values().sum());
-    if function == Function::Archive && again < planned {
+    if planner == Planner::Archive && again < planned {
         report.faults.push(format!("seed {seed}: only {again} of {planned} jobs were written again"));
     }
     let handed_back = report.handed_back;
-    if function == Function::Archive && handed_back < planned {
+    if planner == Planner::Archive && handed_back < planned {
         report.faults.push(format!("seed {seed}: only {handed_back} of {planned} plans were lent to the chooser"));
     }
     report
@@ -149,15 +149,13 @@ fn on_two_threads(share: impl Fn(u64) -> Report + Sync) -> Report {
 /// Tries the first jobs of a seed that are made in some way, and shows what the archive planned of each.
 fn each(made: fn(u64, u64) -> Case, seed: u64, jobs: u64, mut show: impl FnMut(&Case, &PlanBook)) -> Report {
     let mut report = Report::of(Subject::Jobs);
-    let mut caller = Guarded::new(Function::Archive, Against::Back);
+    let mut caller = Guarded::new(Planner::Archive, Against::Back);
     for n in 0..jobs {
         let before = report.faults.len();
         let case = made(seed, n);
         try_case(&mut caller, &case, &mut Random::nth(!seed, n), &mut report);
         report.faults[before..].iter_mut().for_each(|fault| *fault = format!("seed {seed} job {n}: {fault}"));
-        let mut out = vec![0; PLAN_ROOM];
-        let length = usize::try_from(plan(Function::Archive, &case.bytes, &mut out)).ok();
-        if let Some(book) = length.and_then(|length| PlanBook::read(&out[..length]).ok()) {
+        if let Some(book) = call::planned(&case.bytes).ok().and_then(|plan| PlanBook::read(&plan).ok()) {
             show(&case, &book);
         }
     }
@@ -256,11 +254,11 @@ fn filled(program: &str, seed: u64, jobs: u64) -> Report {
     report
 }
 
-fn one_by_one(function: Function, seed: u64, from: u64, to: u64) -> bool {
+fn one_by_one(planner: Planner, seed: u64, from: u64, to: u64) -> bool {
     let mut report = Report::of(Subject::Jobs);
     for n in from..to {
         println!("seed {seed} job {n}: {}", case(seed, n).what);
-        report.add(try_cases(&mut Guarded::new(function, Against::Back), seed, n, n + 1, 1));
+        report.add(try_cases(&mut Guarded::new(planner, Against::Back), seed, n, n + 1, 1));
     }
     println!("{report}");
     told(&report)

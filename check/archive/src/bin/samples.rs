@@ -6,7 +6,7 @@ use std::fs;
 use std::path::Path;
 use std::process::ExitCode;
 
-use trench_archive::call::{Function, plan};
+use trench_archive::call::planned;
 use trench_check::book::job_bytes;
 use trench_check::book_cases::{count, route};
 use trench_check::job::{Job, Point, Run};
@@ -14,7 +14,7 @@ use trench_check::listing;
 use trench_check::plan_book::{HEAD_LENGTH, Kinds, PlanBook};
 use trench_check::planner;
 use trench_check::read_back::listed;
-use trench_check::refusal::{PLAN_ROOM, verdict};
+use trench_check::refusal::verdict;
 use trench_check::text;
 
 fn main() -> ExitCode {
@@ -76,13 +76,11 @@ fn typed_job(path: &Path) -> Result<Job, String> {
 
 /// Writes a job book, and beside it its plan book and its listing, or the listing of its refusal.
 fn write(path: &Path, job: &[u8]) -> std::io::Result<()> {
-    let mut out = vec![0; PLAN_ROOM];
-    let answer = plan(Function::Archive, job, &mut out);
     fs::write(path.with_extension("job"), job)?;
-    match (usize::try_from(answer), verdict(job)) {
-        (Ok(length), Ok(_)) => write_plan(path, &out[..length]),
+    match (planned(job), verdict(job)) {
+        (Ok(plan), Ok(_)) => write_plan(path, &plan),
         (Err(_), Err(refusal)) => fs::write(path.with_extension("lst"), listing::of_refusal(refusal)),
-        (_, due) => panic!("{}: the archive answers {answer}, and {due:?} is due", path.display()),
+        (plan, due) => panic!("{}: the archive gives {plan:?}, and {due:?} is due", path.display()),
     }
 }
 

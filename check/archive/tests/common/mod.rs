@@ -9,9 +9,8 @@ use std::os::unix::process::ExitStatusExt;
 use std::path::{Path, PathBuf};
 use std::process::{Command, Output, Stdio};
 
-use trench_archive::call::{Function, plan};
+use trench_archive::call;
 use trench_check::plan_book::PlanBook;
-use trench_check::refusal::PLAN_ROOM;
 use trench_check::report::Report;
 
 /// The repository's root.
@@ -92,10 +91,7 @@ fn samples_in(folder: &str, ending: &str) -> Vec<PathBuf> {
 
 /// The archive's plan of a job, or minus its refusal number.
 pub fn planned(job: &[u8]) -> Result<PlanBook, i32> {
-    let mut out = vec![0; PLAN_ROOM];
-    let answer = plan(Function::Archive, job, &mut out);
-    let length = usize::try_from(answer).map_err(|_| answer)?;
-    Ok(PlanBook::read(&out[..length]).expect("a plan book"))
+    call::planned(job).map(|plan| PlanBook::read(&plan).expect("a plan book"))
 }
 
 /// Runs one of the ignored tests of this program in a process of its own, which an access of an inaccessible page ends.

@@ -1,23 +1,23 @@
 -- The invariant: the sides of the boxes passed stand in both arrays.
-use mathlib.Core.Path.{_≡_, refl, _∙_}
-use Prim.Native.Nat.{_≤_, _-_, min, max}
+use mathlib.Core.Path.{_≡_, ap, _∙_}
+use Prim.Native.Nat.{ℕ, _≤_, _-_, min, max}
 use native.Mathlib.Omega.{arith}
 use borrow.Author.Needs.{needs}
 use lib.ListN.{getD}
 use Rattle.grid.specs.Tables.{table, padded}
-use Rattle.grid.proofs.Tables.{table-more, table-full}
+use Rattle.grid.proofs.Tables.{table-more}
 use Rattle.intersection.proofs.box_sides.Statement.{statement}
 use Rattle.intersection.proofs.box_sides.Tie as tie
 
 abbrev Inv-loop : tie.InvT-loop
-Inv-loop first second lower₀ higher₀ i₀ lower higher i =
-    (i ≤ 32) × (lower ≡ padded 32 (table (λ k. min (getD first k 0) (getD second k 0)) i)) × (higher ≡ padded 32 (table (λ k. max (getD first k 0) (getD second k 0)) i))
+Inv-loop first second n lower₀ higher₀ i₀ lower higher i =
+    (i ≤ n) × (lower ≡ padded 32 (table (λ k. min (getD first k 0) (getD second k 0)) i)) × (higher ≡ padded 32 (table (λ k. max (getD first k 0) (getD second k 0)) i))
 
 abbrev μ-loop : tie.MeasureT-loop
-μ-loop first second lower₀ higher₀ i₀ lower higher i = 32 - i
+μ-loop first second n lower₀ higher₀ i₀ lower higher i = n - i
 
 loop-holds : tie.Need-loop-holds Inv-loop μ-loop
-loop-holds c = (omega arith, refl, refl)
+loop-holds c = (omega arith, c .pre .1, c .pre .2)
 
 mul-a : tie.Need-mul-a Inv-loop μ-loop
 mul-a c = omega arith
@@ -37,8 +37,8 @@ least-requires c κs = search needs
 mul-lower : tie.Need-mul-lower Inv-loop μ-loop
 mul-lower c = omega arith
 
-array-write-lower : tie.Need-array-write-lower Inv-loop μ-loop
-array-write-lower c = omega arith
+element-write-lower : tie.Need-element-write-lower Inv-loop μ-loop
+element-write-lower c = omega arith
 
 most-requires : tie.Need-most-requires Inv-loop μ-loop
 most-requires c κs = search needs
@@ -46,8 +46,8 @@ most-requires c κs = search needs
 mul-higher : tie.Need-mul-higher Inv-loop μ-loop
 mul-higher c = omega arith
 
-array-write-higher : tie.Need-array-write-higher Inv-loop μ-loop
-array-write-higher c = omega arith
+element-write-higher : tie.Need-element-write-higher Inv-loop μ-loop
+element-write-higher c = omega arith
 
 add-i : tie.Need-add-i Inv-loop μ-loop
 add-i c = omega arith
@@ -68,11 +68,10 @@ returns : tie.Need-returns Inv-loop μ-loop
 returns c =
     let a = c .before .before .args in
     let l = c .before .loop in
-    let e : l .i ≡ 32 = omega arith in
-    λ k. record {
-      lower = (l .inv .1 ∙ table-full (λ k. min (getD (a .first .now) k 0) (getD (a .second .now) k 0)) 32 (l .i) e) k;
-      higher = (l .inv .2 ∙ table-full (λ k. max (getD (a .first .now) k 0) (getD (a .second .now) k 0)) 32 (l .i) e) k;
-    }
+    let e : l .i ≡ a .n = omega arith in (
+      l .inv .1 ∙ ap (λ (m : ℕ). padded 32 (table (λ k. min (getD (a .first .now) k 0) (getD (a .second .now) k 0)) m)) e,
+      l .inv .2 ∙ ap (λ (m : ℕ). padded 32 (table (λ k. max (getD (a .first .now) k 0) (getD (a .second .now) k 0)) m)) e,
+    )
 
 pub box-sides-spec : {M : Type 1} → statement M
 box-sides-spec =
@@ -87,10 +86,10 @@ box-sides-spec =
     element-copy-out-b
     least-requires
     mul-lower
-    array-write-lower
+    element-write-lower
     most-requires
     mul-higher
-    array-write-higher
+    element-write-higher
     add-i
     loop-less
     loop-again

@@ -20,32 +20,36 @@ few s = held-few (s .args .j) (s .pre .held)
 count-groups-requires : tie.Need-count-groups-requires
 count-groups-requires c κs = few (c .before)
 
-meets-figures-requires : tie.Need-meets-figures-requires
-meets-figures-requires c κs = few (c .before .before .before)
+tell-meets-requires : tie.Need-tell-meets-requires
+tell-meets-requires c κs = (few (c .before .before .before .before), refl)
 
-centre-numbers-requires : tie.Need-centre-numbers-requires
-centre-numbers-requires c κs = (few (c .before .before .before .before .before .before .before), leased-listed (c .before .before .before .before .before .before .before .args .j) _ _ (c .before .before .before .before .before .before .before .pre))
+tell-centres-requires : tie.Need-tell-centres-requires
+tell-centres-requires c κs =
+    let s = c .before .before .before .before .before .before .before .before .before in
+    (few s, leased-listed (s .args .j) _ _ (s .pre), refl)
 
 total-distance-requires : tie.Need-total-distance-requires
-total-distance-requires c κs = held-range (c .before .before .before .before .before .before .before .before .before .before .before .before .before .before .before .before .args .j) (c .before .before .before .before .before .before .before .before .before .before .before .before .before .before .before .before .pre .held)
+total-distance-requires c κs =
+    let s = c .before .before .before .before .before .before .before .before .before .before .before .before .before .before .before .before .before .before in
+    held-range (s .args .j) (s .pre .held)
 
 axis-of-requires : tie.Need-axis-of-requires
-axis-of-requires c κs = few (c .before .before .before .before .before .before .before .before .before .before .before .before .before .before .before .before .before .before .before)
+axis-of-requires c κs = few (c .before .before .before .before .before .before .before .before .before .before .before .before .before .before .before .before .before .before .before .before .before)
 
 axis-of-requires-2 : tie.Need-axis-of-requires-2
-axis-of-requires-2 c κs = few (c .before .before .before .before .before .before .before .before .before .before .before .before .before .before .before .before .before .before .before .before .before .before)
+axis-of-requires-2 c κs = few (c .before .before .before .before .before .before .before .before .before .before .before .before .before .before .before .before .before .before .before .before .before .before .before .before)
 
 returns : tie.Need-returns
 returns c =
-    let s = c .before .before .before .before .before .before .before .before .before .before .before .before .before .before .before .before .before .before .before .before .before .before .before in
+    let s = c .before .before .before .before .before .before .before .before .before .before .before .before .before .before .before .before .before .before .before .before .before .before .before .before .before in
     let j = s .args .j in
     let runs = runsOf (runsIn j) in (
       refl,
       record {
         held = s .pre .held;
-        meets-are = leased-meets j _ _ (s .pre) _ (c .before .before .before .before .before .before .before .before .before .before .before .before .before .before .before .before .before .before .before .meets-figures .ensures);
-        centres-are = leased-centres j _ _ (s .pre) _ (c .before .before .before .before .before .before .before .before .before .before .before .before .before .before .before .centre-numbers .ensures);
-        groups-are = leased-groups j _ _ (s .pre) _ (c .before .before .before .before .before .before .before .before .before .before .before .before .before .before .before .before .before .before .before .before .before .count-groups .ensures .0) ∙ ap (groupCount (meets (hanan runs) runs)) (sym (length-plane j));
+        meets-are = leased-meets j _ _ (s .pre) _ (c .before .before .before .before .before .before .before .before .before .before .before .before .before .before .before .before .before .before .before .before .tell-meets .ensures);
+        centres-are = leased-centres j _ _ (s .pre) _ (c .before .before .before .before .before .before .before .before .before .before .before .before .before .before .before .tell-centres .ensures);
+        groups-are = leased-groups j _ _ (s .pre) _ (c .before .before .before .before .before .before .before .before .before .before .before .before .before .before .before .before .before .before .before .before .before .before .before .count-groups .ensures .0) ∙ ap (groupCount (meets (hanan runs) runs)) (sym (length-plane j));
         total-is = c .before .before .before .before .before .before .total-distance .ensures .0 ∙ ap (sum distance) (sym (plane-held j));
         lined = axes-held j _ _ (c .before .before .before .axis-of .ensures .0) (c .axis-of2 .ensures .0);
       },
@@ -56,8 +60,8 @@ known-of-spec =
     tie.close
     (tie.spec
     count-groups-requires
-    meets-figures-requires
-    centre-numbers-requires
+    tell-meets-requires
+    tell-centres-requires
     total-distance-requires
     axis-of-requires
     axis-of-requires-2

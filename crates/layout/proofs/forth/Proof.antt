@@ -1,35 +1,35 @@
--- Before each turn the route has the steps from `from` up to i more.
-use mathlib.Core.Path.{_≡_, _∙_}
+-- Before each turn the steps from `from` up to i are written.
+use borrow.Author.Needs.{needs}
+use mathlib.Core.Path.{_≡_}
 use mathlib.Core.List.{map}
 use Prim.Native.Nat.{_-_, _≤_, _<_}
-use native.Mathlib.Omega.{arith}
-use borrow.Author.Needs.{needs}
-use lib.ListN.{length, getD, length-set}
+use lib.ListN.{length}
 use lib.Seq.{slice}
 use Rattle.route.specs.Route.{dirOf}
 use Rattle.layout.specs.Laid.{Longer}
 use Rattle.layout.proofs.Growing.{forth-none, forth-step}
+use native.Mathlib.Omega.{arith}
 use Rattle.layout.proofs.forth.Statement.{statement}
 use Rattle.layout.proofs.forth.Tie as tie
 
 abbrev Inv-loop : tie.InvT-loop
-Inv-loop from upto steps s₀ i₀ s i =
-    (from ≤ i) × (i ≤ upto) × (length steps ≡ 128) × (length (s .steps) ≡ 128) × Longer s₀ (i - from) (map dirOf (slice from i steps)) s
+Inv-loop to₀ at steps from upto k₀ i₀ to k i =
+    (from ≤ i) × (i ≤ upto) × (length steps ≡ 128) × Longer to₀ at (i - from) (map dirOf (slice from i steps)) to k
 
 abbrev μ-loop : tie.MeasureT-loop
-μ-loop from upto steps s₀ i₀ s i = upto - i
+μ-loop to₀ at steps from upto k₀ i₀ to k i = upto - i
 
 loop-holds : tie.Need-loop-holds Inv-loop μ-loop
-loop-holds c = (search needs, search needs, search needs, search needs, forth-none (c .args .r) (c .args .t2) (c .args .from))
+loop-holds c = (search needs, search needs, c .pre .3, forth-none _ _ _ (c .args .from))
 
-array-read-s : tie.Need-array-read-s Inv-loop μ-loop
-array-read-s c = search needs
+element-copy-out-to : tie.Need-element-copy-out-to Inv-loop μ-loop
+element-copy-out-to c = search needs
 
-element-write-s : tie.Need-element-write-s Inv-loop μ-loop
-element-write-s c = search needs
+slice-write-to : tie.Need-slice-write-to Inv-loop μ-loop
+slice-write-to c = search needs
 
-add-s : tie.Need-add-s Inv-loop μ-loop
-add-s c = search needs
+add-k : tie.Need-add-k Inv-loop μ-loop
+add-k c = search needs
 
 add-i : tie.Need-add-i Inv-loop μ-loop
 add-i c = search needs
@@ -39,21 +39,19 @@ loop-less c = search needs
 
 loop-again : tie.Need-loop-again Inv-loop μ-loop
 loop-again c =
-    let l = c .before .loop in
-    let t = c .before .before .args .t2 in
-    let h : l .s .count < length (l .s .steps) = omega arith in (
-      search needs,
-      search needs,
-      l .inv .2,
-      length-set (l .s .steps) (l .s .count) (getD t (l .i) 0) ∙ l .inv .3,
-      forth-step _ (l .s) h t _ (l .i) (l .inv .0) (omega arith) (l .inv .4),
-    )
+    let l = c .before .before .loop in
+    let t = c .before .before .before .args .steps .now in
+    let h : l .k < length (l .to) = omega arith in
+    (search needs, search needs, l .inv .2, forth-step _ _ (l .to) (l .k) h t _ (l .i) (l .inv .0) (omega arith) (l .inv .3))
+
+same-length : tie.Need-same-length Inv-loop μ-loop
+same-length c = search needs
 
 returns : tie.Need-returns Inv-loop μ-loop
 returns c =
     let l = c .before .loop in
     let e : l .i ≡ c .before .before .args .upto = omega arith in
-    rw (← e) (l .inv .4)
+    rw (← e) (l .inv .3)
 
 pub forth-spec : {M : Type 1} → statement M
 forth-spec =
@@ -62,10 +60,11 @@ forth-spec =
     Inv-loop
     μ-loop
     loop-holds
-    array-read-s
-    element-write-s
-    add-s
+    element-copy-out-to
+    slice-write-to
+    add-k
     add-i
     loop-less
     loop-again
+    same-length
     returns)

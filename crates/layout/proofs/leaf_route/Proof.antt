@@ -1,98 +1,106 @@
 -- The ways and the stretch are those of the definition, and there is room for them.
-use mathlib.Core.Path.{_≡_, ap}
-use Prim.Native.Nat.{ℕ}
+use mathlib.Core.Path.{_∙_}
 use native.Mathlib.Omega.{arith}
+use Rattle.table.specs.Walk.{traceOf}
+use Rattle.layout.proofs.Laying.{leaf-few, leaf-count, laid-leaf}
 use borrow.Author.Needs.{needs}
-use lib.ListN.{length}
-use Rattle.route.specs.declared.Route.{Route}
-use Rattle.layout.proofs.Laying.{leaf-few, leaf-room, laid-leaf}
 use Rattle.layout.proofs.leaf_route.Statement.{statement}
 use Rattle.layout.proofs.leaf_route.Tie as tie
 
-abbrev count : Route → ℕ
-count r = r .count
+cast-from : tie.Need-cast-from
+cast-from c = search needs
+
+cast-size : tie.Need-cast-size
+cast-size c = search needs
+
+cast-across : tie.Need-cast-across
+cast-across c = search needs
+
+cast-wide : tie.Need-cast-wide
+cast-wide c = search needs
 
 way-of-requires : tie.Need-way-of-requires
 way-of-requires c κs =
-    let o = c in
-    let full : length (o .args .moves .steps) ≡ 128 = search (needs, o .good .1 .1 .0) in
-    let few = leaf-few _ _ _ (o .args .moves) _ _ full (o .pre .2) in
-    (o .pre .2 .centre-layable .in-columns, o .pre .2 .layable .in-columns, omega arith, omega arith)
+    let o = c .before .before .before .before .before in
+    let few = leaf-few _ _ _ (traceOf (o .args .steps .now) (o .pre .2 .2) (o .pre .2 .3)) _ _ (o .pre .0) (o .pre .2 .4) in
+    (o .pre .2 .4 .ready .centre-layable .in-columns, o .pre .2 .4 .ready .layable .in-columns, omega arith, omega arith)
 
 sub-way-of : tie.Need-sub-way-of
 sub-way-of c =
-    let o = c .before .before in
-    let full : length (o .args .moves .steps) ≡ 128 = search (needs, o .good .1 .1 .0) in
-    let few = leaf-few _ _ _ (o .args .moves) _ _ full (o .pre .2) in
+    let o = c .before .before .before .before .before .before in
+    let few = leaf-few _ _ _ (traceOf (o .args .steps .now) (o .pre .2 .2) (o .pre .2 .3)) _ _ (o .pre .0) (o .pre .2 .4) in
     few .0
 
 sub-way-of-2 : tie.Need-sub-way-of-2
 sub-way-of-2 c =
-    let o = c .before .before .before in
-    let full : length (o .args .moves .steps) ≡ 128 = search (needs, o .good .1 .1 .0) in
-    let few = leaf-few _ _ _ (o .args .moves) _ _ full (o .pre .2) in
+    let o = c .before .before .before .before .before .before in
+    let few = leaf-few _ _ _ (traceOf (o .args .steps .now) (o .pre .2 .2) (o .pre .2 .3)) _ _ (o .pre .0) (o .pre .2 .4) in
     few .1
 
 way-of-requires-2 : tie.Need-way-of-requires-2
 way-of-requires-2 c κs =
-    let o = c .before .before .before in
-    let full : length (o .args .moves .steps) ≡ 128 = search (needs, o .good .1 .1 .0) in
-    let few = leaf-few _ _ _ (o .args .moves) _ _ full (o .pre .2) in
-    (o .pre .2 .centre-layable .in-rows, o .pre .2 .layable .in-rows, omega arith, omega arith)
-
-begin-requires : tie.Need-begin-requires
-begin-requires c κs = search needs
+    let o = c .before .before .before .before .before .before in
+    let few = leaf-few _ _ _ (traceOf (o .args .steps .now) (o .pre .2 .2) (o .pre .2 .3)) _ _ (o .pre .0) (o .pre .2 .4) in
+    (o .pre .2 .4 .ready .centre-layable .in-rows, o .pre .2 .4 .ready .layable .in-rows, omega arith, omega arith)
 
 leg-requires : tie.Need-leg-requires
 leg-requires c κs =
-    let o = c .before .before .before .before .before .before in
-    let full : length (o .args .moves .steps) ≡ 128 = search (needs, o .good .1 .1 .0) in
-    let few = leaf-few _ _ _ (o .args .moves) _ _ full (o .pre .2) in
-    let room = leaf-room _ _ _ (o .args .moves) _ _ full (o .pre .2) _ _ (c .before .before .before .before .before .way-of .ensures) (c .before .before .way-of2 .ensures) in
-    omega (arith, ap count (c .begin .ensures))
+    let o = c .before .before .before .before .before .before .before .before in
+    let w = c .before in
+    let room = leaf-count _ _ _ (traceOf (o .args .steps .now) (o .pre .2 .2) (o .pre .2 .3)) _ _ (o .pre .0) (o .pre .2 .4) _ _ (w .before .way-of .ensures) (w .way-of2 .ensures) in
+    omega (arith, room, o .pre .1)
 
 add-along : tie.Need-add-along
-add-along c =
-    let o = c .before .before .before .before .before .before .before .before in
-    let full : length (o .args .moves .steps) ≡ 128 = search (needs, o .good .1 .1 .0) in
-    let few = leaf-few _ _ _ (o .args .moves) _ _ full (o .pre .2) in
-    omega arith
+add-along c = search needs
 
 along-requires : tie.Need-along-requires
 along-requires c κs =
-    let o = c .before .before .before .before .before .before .before .before in
-    let full : length (o .args .moves .steps) ≡ 128 = search (needs, o .good .1 .1 .0) in
-    let few = leaf-few _ _ _ (o .args .moves) _ _ full (o .pre .2) in
-    let room = leaf-room _ _ _ (o .args .moves) _ _ full (o .pre .2) _ _ (c .before .before .before .before .before .before .before .way-of .ensures) (c .before .before .before .before .way-of2 .ensures) in
-    omega (arith, o .pre .2 .some, c .before .leg .ensures .more, ap count (c .before .before .begin .ensures))
+    let o = c .before .before .before .before .before .before .before .before .before .before .before .before in
+    let few = leaf-few _ _ _ (traceOf (o .args .steps .now) (o .pre .2 .2) (o .pre .2 .3)) _ _ (o .pre .0) (o .pre .2 .4) in
+    let w = c .before .before .before .before .before in
+    let room = leaf-count _ _ _ (traceOf (o .args .steps .now) (o .pre .2 .2) (o .pre .2 .3)) _ _ (o .pre .0) (o .pre .2 .4) _ _ (w .before .way-of .ensures) (w .way-of2 .ensures) in
+    let l = c .before .before .before .leg .ensures in
+    omega (arith, room, few, o .pre .0, o .pre .1, o .pre .2 .4 .some, l .more, l .same-size)
 
 leg-requires-2 : tie.Need-leg-requires-2
 leg-requires-2 c κs =
-    let o = c .before .before .before .before .before .before .before .before .before in
-    let full : length (o .args .moves .steps) ≡ 128 = search (needs, o .good .1 .1 .0) in
-    let few = leaf-few _ _ _ (o .args .moves) _ _ full (o .pre .2) in
-    let room = leaf-room _ _ _ (o .args .moves) _ _ full (o .pre .2) _ _ (c .before .before .before .before .before .before .before .before .way-of .ensures) (c .before .before .before .before .before .way-of2 .ensures) in
-    omega (arith, c .along .ensures .more, c .before .before .leg .ensures .more, ap count (c .before .before .before .begin .ensures))
+    let o = c .before .before .before .before .before .before .before .before .before .before .before .before .before .before .before .before in
+    let w = c .before .before .before .before .before .before .before .before .before in
+    let room = leaf-count _ _ _ (traceOf (o .args .steps .now) (o .pre .2 .2) (o .pre .2 .3)) _ _ (o .pre .0) (o .pre .2 .4) _ _ (w .before .way-of .ensures) (w .way-of2 .ensures) in
+    let l = c .before .before .before .before .before .before .before .leg .ensures in
+    let m = c .before .before .before .along .ensures in
+    omega (arith, room, o .pre .1, l .more, l .same-size, m .more, m .same-size)
+
+same-length : tie.Need-same-length
+same-length c = search needs
 
 returns : tie.Need-returns
-returns c n k h =
-    let o = c .before .before .before .before .before .before .before .before .before .before in
-    let full : length (o .args .moves .steps) ≡ 128 = search (needs, o .good .1 .1 .0) in
-    let l = c .before .before .before in
-    laid-leaf _ _ n (o .args .moves) k _ full h _ _ (c .before .before .before .before .before .before .before .before .before .way-of .ensures) (c .before .before .before .before .before .before .way-of2 .ensures) _ _ _
-    (rw (l .before .begin .ensures) at (l .leg .ensures)) (c .before .along .ensures) (c .leg2 .ensures)
+returns c =
+    let l = c .before .before in
+    let m = l .before .before .before .before in
+    let n = m .before .before .before .before in
+    let w = n .before .before in
+    let o = w .before .before .before .before .before .before .before in (
+      λ i k shares count h. laid-leaf _ _ i (traceOf (o .args .steps .now) shares count) k _ (o .pre .0) h _ _ (w .before .way-of .ensures) (w .way-of2 .ensures) _ _ _ _ _ _ _
+          (o .pre .1) (n .leg .ensures) (m .along .ensures) (l .leg2 .ensures),
+      l .leg2 .ensures .same-size ∙ m .along .ensures .same-size ∙ n .leg .ensures .same-size,
+    )
 
 pub leaf-route-spec : {M : Type 1} → statement M
 leaf-route-spec =
     tie.close
     (tie.spec
+    cast-from
+    cast-size
+    cast-across
+    cast-wide
     way-of-requires
     sub-way-of
     sub-way-of-2
     way-of-requires-2
-    begin-requires
     leg-requires
     add-along
     along-requires
     leg-requires-2
+    same-length
     returns)

@@ -1,9 +1,9 @@
--- Before each turn the route has the first i steps of the leg more.
-use mathlib.Core.Path.{_≡_, _∙_}
+-- Before each turn the first i steps of the leg are written.
+use mathlib.Core.Path.{_≡_}
 use Prim.Native.Nat.{_+_, _-_, _≤_, _<_}
 use native.Mathlib.Omega.{arith}
 use borrow.Author.Needs.{needs}
-use lib.ListN.{length, take, length-set}
+use lib.ListN.{length, take}
 use lib.Seq.{take-all}
 use Rattle.layout.specs.Way.{legOf}
 use Rattle.layout.specs.Laid.{Longer}
@@ -12,25 +12,25 @@ use Rattle.layout.proofs.leg.Statement.{statement}
 use Rattle.layout.proofs.leg.Tie as tie
 
 abbrev Inv-loop : tie.InvT-loop
-Inv-loop across up s₀ n i₀ s i = (i ≤ n) × (length (s .steps) ≡ 128) × Longer s₀ i (take i (legOf across up)) s
+Inv-loop to₀ at across up k₀ n i₀ to k i = (i ≤ n) × Longer to₀ at i (take i (legOf across up)) to k
 
 abbrev μ-loop : tie.MeasureT-loop
-μ-loop across up s₀ n i₀ s i = n - i
+μ-loop to₀ at across up k₀ n i₀ to k i = n - i
 
 add-n : tie.Need-add-n Inv-loop μ-loop
 add-n c = search needs
 
 loop-holds : tie.Need-loop-holds Inv-loop μ-loop
-loop-holds c = (search needs, search needs, longer-none (c .args .r))
+loop-holds c = (search needs, longer-none _ _)
 
 leg-step-requires : tie.Need-leg-step-requires Inv-loop μ-loop
 leg-step-requires c κs = search needs
 
-element-write-s : tie.Need-element-write-s Inv-loop μ-loop
-element-write-s c = search needs
+slice-write-to : tie.Need-slice-write-to Inv-loop μ-loop
+slice-write-to c = search needs
 
-add-s : tie.Need-add-s Inv-loop μ-loop
-add-s c = search needs
+add-k : tie.Need-add-k Inv-loop μ-loop
+add-k c = search needs
 
 add-i : tie.Need-add-i Inv-loop μ-loop
 add-i c = search needs
@@ -41,22 +41,21 @@ loop-less c = search needs
 loop-again : tie.Need-loop-again Inv-loop μ-loop
 loop-again c =
     let l = c .before .before .loop in
-    let a = c .before .before .before .args in
-    let v = c .leg-step .result in
-    let h : l .s .count < length (l .s .steps) = omega arith in (
-      search needs,
-      length-set (l .s .steps) (l .s .count) v ∙ l .inv .1,
-      leg-next _ (l .s) h (a .across) (a .up) v (l .i) (omega arith) (c .leg-step .ensures) (l .inv .2),
-    )
+    let a = c .before .before .before .before .args in
+    let h : l .k < length (l .to) = omega arith in
+    (search needs, leg-next _ _ (l .to) (l .k) h (a .across) (a .up) (c .leg-step .result) (l .i) (omega arith) (c .leg-step .ensures) (l .inv .1))
+
+same-length : tie.Need-same-length Inv-loop μ-loop
+same-length c = search needs
 
 returns : tie.Need-returns Inv-loop μ-loop
 returns c =
     let l = c .before .loop in
-    let a = c .before .before .args in
+    let a = c .before .before .before .args in
     let e : l .i ≡ a .across + a .up = omega arith in
     let g : take (l .i) (legOf (a .across) (a .up)) ≡ legOf (a .across) (a .up)
     = take-all (l .i) _ (omega (arith, leg-length (a .across) (a .up))) in
-    rw (← e, ← g) (l .inv .2)
+    rw (← e, ← g) (l .inv .1)
 
 pub leg-spec : {M : Type 1} → statement M
 leg-spec =
@@ -67,9 +66,10 @@ leg-spec =
     add-n
     loop-holds
     leg-step-requires
-    element-write-s
-    add-s
+    slice-write-to
+    add-k
     add-i
     loop-less
     loop-again
+    same-length
     returns)

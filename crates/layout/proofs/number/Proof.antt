@@ -4,9 +4,6 @@ use borrow.Author.Needs.{needs}
 use Rattle.layout.proofs.number.Statement.{statement}
 use Rattle.layout.proofs.number.Tie as tie
 
-wide-requires : tie.Need-wide-requires
-wide-requires c κs = search needs
-
 sub-result : tie.Need-sub-result
 sub-result c = search needs
 
@@ -17,4 +14,4 @@ returns-2 : tie.Need-returns-2
 returns-2 c = search needs
 
 pub number-spec : {M : Type 1} → statement M
-number-spec = tie.close (tie.spec wide-requires sub-result returns returns-2)
+number-spec = tie.close (tie.spec sub-result returns returns-2)

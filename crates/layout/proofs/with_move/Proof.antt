@@ -1,6 +1,6 @@
 -- By the test of the definition.
-use borrow.Author.Needs.{needs}
 use borrow.Author.Tests.{eq-eqb, ne-eqb}
+use borrow.Author.Needs.{needs}
 use Rattle.layout.proofs.with_move.Statement.{statement}
 use Rattle.layout.proofs.with_move.Tie as tie
 

@@ -1,30 +1,28 @@
 -- `plan::write_corners` meets its contract. The loop's invariant is `Writing`: the records of the corners ahead, behind those written, complete all.
-use mathlib.Core.Path.{_≡_}
 use mathlib.Core.Logic.{⊎-elim}
 use Prim.Native.Nat.{_-_}
 use native.Mathlib.Omega.{arith}
 use borrow.Author.Needs.{needs}
-use lib.ListN.{length}
+use Rattle.route.specs.Route.{routeBy}
 use Rattle.route.proofs.Walk.{can-step, at-step, column-in, row-in}
 use Rattle.plan.proofs.Corners.{Writing, writing-all, corner-fits, corner-few, writing-straight, writing-turned, writing-end}
 use Rattle.plan.proofs.write_corners.Statement.{statement}
 use Rattle.plan.proofs.write_corners.Tie as tie
 
 abbrev Inv-loop : tie.InvT-loop
-Inv-loop out₀ route columns rows w₀ at₀ out w at = Writing columns rows route out₀ out w at
+Inv-loop out₀ track steps columns rows w₀ at₀ out w at = Writing columns rows (routeBy steps track) out₀ out w at
 
 abbrev μ-loop : tie.MeasureT-loop
-μ-loop out₀ route columns rows w₀ at₀ out w at = route .count - w .at
+μ-loop out₀ track steps columns rows w₀ at₀ out w at = track .count - w .at
 
 start-requires : tie.Need-start-requires Inv-loop μ-loop
 start-requires c κs = search needs
 
 loop-holds : tie.Need-loop-holds Inv-loop μ-loop
 loop-holds c =
-    let a = c .before .before .args in
-    let p = c .before .before .pre in
-    let full : length (a .route .steps) ≡ 128 = search needs in
-    rw (c .start .ensures) (writing-all _ _ (a .route) (a .out .now) full (p .0) (p .1))
+    let a = c .before .before .before .args in
+    let p = c .before .before .before .pre in
+    rw (c .start .ensures) (writing-all _ _ (routeBy (a .steps .now) (a .track)) (a .out .now) (p .0) (p .1))
 
 step-requires : tie.Need-step-requires Inv-loop μ-loop
 step-requires c κs =

@@ -4,7 +4,7 @@ use mathlib.Core.Bool.{true}
 use mathlib.Core.List.{map, flatMap}
 use native.Mathlib.Omega.{arith}
 use lib.ListN.{length, length-map}
-use Rattle.route.specs.Route.{cornersOf, placed}
+use Rattle.route.specs.Route.{routeBy, cornersOf, placed}
 use Rattle.route.proofs.Corners.{corners-few}
 use Rattle.plan.specs.Records.{routeRecord, cornerRecord}
 use Rattle.fields.proofs.Over.{wrote-next}
@@ -13,7 +13,7 @@ use Rattle.plan.proofs.write_run.Statement.{statement}
 use Rattle.plan.proofs.write_run.Tie as tie
 
 cast-write-route : tie.Need-cast-write-route
-cast-write-route c = omega (arith, corners-few _ (c .before .before .pre .0))
+cast-write-route c = omega (arith, corners-few _ (c .before .before .before .pre .0))
 
 write-route-requires : tie.Need-write-route-requires
 write-route-requires c κs = search needs
@@ -40,13 +40,14 @@ returns : tie.Need-returns
 returns c =
     let k = c .before .before .write-corners in
     let h = c .before .before .before .before .before .before .write-route in
-    let s = c .before .before .before .before .before .before .before .before .before in
+    let s = c .before .before .before .before .before .before .before .before .before .before in
     let a = s .args in
-    let l = map (placed (a .columns .now) (a .rows .now)) (cornersOf (a .route)) in
-    let e : a .corners ≡ length l = s .pre .1 ∙ sym (length-map (cornersOf (a .route)) (placed (a .columns .now) (a .rows .now))) in
-    let r = rw e at (h .ensures) in (
+    let r = routeBy (a .steps .now) (a .track) in
+    let l = map (placed (a .columns .now) (a .rows .now)) (cornersOf r) in
+    let e : a .corners ≡ length l = s .pre .1 ∙ sym (length-map (cornersOf r) (placed (a .columns .now) (a .rows .now))) in
+    let w = rw e at (h .ensures) in (
       wrote-next (routeRecord true (a .number) (a .meets) (length l) (a .centre)) (flatMap cornerRecord l) (a .out .now) (h .last .0) (k .last .0) (h .result) (k .result)
-          (r .size) (r .bytes) (k .ensures .0),
+          (w .size) (w .bytes) (k .ensures .0),
       omega (arith, k .ensures .1, h .ensures .size),
     )
 

@@ -1,4 +1,4 @@
--- `plan_vectors::longest` is safe: the loop stays below the 32 routes.
+-- `plan_vectors::longest` is safe: the loop ends after 16 pairs of routes.
 use Prim.Native.Nat.{_-_, _≤_}
 use native.Mathlib.Omega.{arith}
 use borrow.Author.Needs.{needs}
@@ -6,10 +6,10 @@ use Rattle.plan_vectors.proofs.longest.Statement.{statement}
 use Rattle.plan_vectors.proofs.longest.Tie as tie
 
 abbrev Inv-loop : tie.InvT-loop
-Inv-loop columns rows numbers meets centres routes₀ other i₀ routes i = i ≤ 33
+Inv-loop columns rows numbers meets centres routes₀ i₀ t11 t12 routes i = i ≤ 16
 
 abbrev μ-loop : tie.MeasureT-loop
-μ-loop columns rows numbers meets centres routes₀ other i₀ routes i = 33 - i
+μ-loop columns rows numbers meets centres routes₀ i₀ t11 t12 routes i = 16 - i
 
 evenly-requires : tie.Need-evenly-requires Inv-loop μ-loop
 evenly-requires c κs = search needs
@@ -20,26 +20,23 @@ evenly-requires-2 c κs = search needs
 counting-requires : tie.Need-counting-requires Inv-loop μ-loop
 counting-requires c κs = search needs
 
-slice-aggregate-route-of : tie.Need-slice-aggregate-route-of Inv-loop μ-loop
-slice-aggregate-route-of c = omega arith
-
-route-of-requires : tie.Need-route-of-requires Inv-loop μ-loop
-route-of-requires c κs = search needs
-
-slice-aggregate-route-of-2 : tie.Need-slice-aggregate-route-of-2 Inv-loop μ-loop
-slice-aggregate-route-of-2 c = omega arith
-
-route-of-requires-2 : tie.Need-route-of-requires-2 Inv-loop μ-loop
-route-of-requires-2 c κs = search needs
+no-routes-requires : tie.Need-no-routes-requires Inv-loop μ-loop
+no-routes-requires c κs = search needs
 
 loop-holds : tie.Need-loop-holds Inv-loop μ-loop
 loop-holds c = omega arith
 
-mul-routes : tie.Need-mul-routes Inv-loop μ-loop
-mul-routes c = omega arith
+slice-aggregate-add : tie.Need-slice-aggregate-add Inv-loop μ-loop
+slice-aggregate-add c = omega arith
 
-array-set-from-routes : tie.Need-array-set-from-routes Inv-loop μ-loop
-array-set-from-routes c = omega arith
+add-requires : tie.Need-add-requires Inv-loop μ-loop
+add-requires c κs = search needs
+
+slice-aggregate-add-2 : tie.Need-slice-aggregate-add-2 Inv-loop μ-loop
+slice-aggregate-add-2 c = omega arith
+
+add-requires-2 : tie.Need-add-requires-2 Inv-loop μ-loop
+add-requires-2 c κs = search needs
 
 add-i : tie.Need-add-i Inv-loop μ-loop
 add-i c = omega arith
@@ -65,13 +62,12 @@ longest-spec =
     evenly-requires
     evenly-requires-2
     counting-requires
-    slice-aggregate-route-of
-    route-of-requires
-    slice-aggregate-route-of-2
-    route-of-requires-2
+    no-routes-requires
     loop-holds
-    mul-routes
-    array-set-from-routes
+    slice-aggregate-add
+    add-requires
+    slice-aggregate-add-2
+    add-requires-2
     add-i
     loop-less
     loop-again

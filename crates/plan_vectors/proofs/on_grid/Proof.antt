@@ -5,18 +5,18 @@ use Prim.Native.Nat.{ℕ, _-_, _≤_}
 use native.Mathlib.Omega.{arith}
 use borrow.Author.Needs.{needs}
 use lib.ListN.{length, take}
-use Rattle.network.specs.Steps.{hor, steps}
+use Rattle.network.specs.Steps.{hor, steps as stepCount}
 use Rattle.network.proofs.Tests.{and-split}
-use Rattle.route.specs.Route.{stepsOf}
+use Rattle.route.specs.Route.{routeBy, stepsOf}
 use Rattle.plan_vectors.proofs.Counts.{across-more, across-same, on-grid}
 use Rattle.plan_vectors.proofs.on_grid.Statement.{statement}
 use Rattle.plan_vectors.proofs.on_grid.Tie as tie
 
 abbrev Inv-loop : tie.InvT-loop
-Inv-loop route count across₀ i₀ across i = (i ≤ count) × (across ≤ i) × (across ≡ steps hor (take i (stepsOf route)))
+Inv-loop track steps count across₀ i₀ across i = (i ≤ count) × (across ≤ i) × (across ≡ stepCount hor (take i (stepsOf (routeBy steps track))))
 
 abbrev μ-loop : tie.MeasureT-loop
-μ-loop route count across₀ i₀ across i = count - i
+μ-loop track steps count across₀ i₀ across i = count - i
 
 returns : tie.Need-returns Inv-loop μ-loop
 returns c e =
@@ -24,11 +24,11 @@ returns c e =
     absurd (omega arith)
 
 loop-holds : tie.Need-loop-holds Inv-loop μ-loop
-unfolding steps
+unfolding stepCount
 loop-holds c = omega arith
 
-element-copy-out-if2 : tie.Need-element-copy-out-if2 Inv-loop μ-loop
-element-copy-out-if2 c = omega arith
+shared-slice-read-if2 : tie.Need-shared-slice-read-if2 Inv-loop μ-loop
+shared-slice-read-if2 c = omega arith
 
 add-across : tie.Need-add-across Inv-loop μ-loop
 add-across c = omega arith
@@ -43,15 +43,14 @@ loop-again : tie.Need-loop-again Inv-loop μ-loop
 loop-again c =
     let t = c .before .before in
     let l = t .before .loop in
-    let s = t .before .before .before in
-    let r = s .args .t1 in
-    let full : length (r .steps) ≡ 128 = search needs in
-    let held : r .count ≤ 128 = omega arith in (
+    let s = t .before .before .before .before in
+    let r = routeBy (s .args .steps .now) (s .args .track) in
+    let held : r .count ≤ length (r .steps) = omega arith in (
       omega arith,
       ⊎-elim (λ w. omega arith) (λ w. omega arith) (c .if2 .came),
       ⊎-elim
-          (λ w. omega (arith, across-more r full held (l .i) (t .loop-test .taken) (w .0 .taken)))
-          (λ w. omega (arith, across-same r full held (l .i) (t .loop-test .taken) (w .0 .left)))
+          (λ w. omega (arith, across-more r held (l .i) (t .loop-test .taken) (w .0 .taken)))
+          (λ w. omega (arith, across-same r held (l .i) (t .loop-test .taken) (w .0 .left)))
           (c .if2 .came),
     )
 
@@ -67,12 +66,12 @@ fits-requires-2 c κs = search needs
 returns-2 : tie.Need-returns-2 Inv-loop μ-loop
 returns-2 c e =
     let l = c .before .before .before .loop in
-    let r = c .before .before .before .before .before .args .t1 in
-    let full : length (r .steps) ≡ 128 = search needs in
-    let held : r .count ≤ 128 = omega arith in
+    let a = c .before .before .before .before .before .before .args in
+    let r = routeBy (a .steps .now) (a .track) in
+    let held : r .count ≤ length (r .steps) = omega arith in
     let n : l .i ≡ r .count = omega arith in
     let b = and-split (c .before .fits2 .result) (c .fits3 .result) e in
-    on-grid r full held (l .across) (rw n at (l .inv .2)) (c .before .fits2 .ensures (b .0)) (c .fits3 .ensures (b .1))
+    on-grid r held (l .across) (rw n at (l .inv .2)) (c .before .fits2 .ensures (b .0)) (c .fits3 .ensures (b .1))
 
 pub on-grid-spec : {M : Type 1} → statement M
 on-grid-spec =
@@ -82,7 +81,7 @@ on-grid-spec =
     μ-loop
     returns
     loop-holds
-    element-copy-out-if2
+    shared-slice-read-if2
     add-across
     add-i
     loop-less

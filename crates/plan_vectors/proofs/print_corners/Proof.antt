@@ -1,6 +1,5 @@
 -- `plan_vectors::print_corners` is safe: the walker stays on the route.
-use mathlib.Core.Path.{_≡_}
-use lib.ListN.{length}
+use Rattle.route.specs.Route.{routeBy}
 use Rattle.route.proofs.Walk.{On, on-start, on-step, can-step, at-step}
 use Prim.Native.Nat.{_-_}
 use native.Mathlib.Omega.{arith}
@@ -9,19 +8,16 @@ use Rattle.plan_vectors.proofs.print_corners.Statement.{statement}
 use Rattle.plan_vectors.proofs.print_corners.Tie as tie
 
 abbrev Inv-loop : tie.InvT-loop
-Inv-loop route w₀ t6 w = On route w
+Inv-loop track steps corners w₀ t8 w = On (routeBy steps track) w
 
 abbrev μ-loop : tie.MeasureT-loop
-μ-loop route w₀ t6 w = route .count - w .at
+μ-loop track steps corners w₀ t8 w = track .count - w .at
 
 slice-aggregate-print : tie.Need-slice-aggregate-print Inv-loop μ-loop
 slice-aggregate-print c = omega arith
 
 print-requires : tie.Need-print-requires Inv-loop μ-loop
 print-requires c κs = search needs
-
-corner-count-requires : tie.Need-corner-count-requires Inv-loop μ-loop
-corner-count-requires c κs = search needs
 
 print-number-requires : tie.Need-print-number-requires Inv-loop μ-loop
 print-number-requires c κs = search needs
@@ -38,8 +34,7 @@ start-requires c κs = search needs
 loop-holds : tie.Need-loop-holds Inv-loop μ-loop
 loop-holds c =
     let s = c .before .before .before .before .before .before .before in
-    let full : length (s .args .route .steps) ≡ 128 = search needs in
-    rw (c .start .ensures) (on-start (s .args .route) full (s .pre))
+    rw (c .start .ensures) (on-start (routeBy (s .args .steps .now) (s .args .track)) (s .pre))
 
 step-requires : tie.Need-step-requires Inv-loop μ-loop
 step-requires c κs =
@@ -79,7 +74,6 @@ print-corners-spec =
     μ-loop
     slice-aggregate-print
     print-requires
-    corner-count-requires
     print-number-requires
     slice-aggregate-print-2
     print-requires-2

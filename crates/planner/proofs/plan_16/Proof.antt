@@ -2,23 +2,23 @@
 use denote.Ref.{now}
 use native.Mathlib.Omega.{arith}
 use borrow.Author.Needs.{needs}
-use Rattle.planner.proofs.Stages.{words-suffice}
+use Rattle.planner.proofs.Stages.{own-outcome}
 use Rattle.planner.proofs.plan_16.Statement.{statement}
 use Rattle.planner.proofs.plan_16.Tie as tie
 
-slice-aggregate-plan-in : tie.Need-slice-aggregate-plan-in
-slice-aggregate-plan-in c = search needs
+slice-aggregate-plan : tie.Need-slice-aggregate-plan
+slice-aggregate-plan c = search needs
 
-plan-in-requires : tie.Need-plan-in-requires
-plan-in-requires c κs =
-    let s = c .before .before .before .before in
-    words-suffice 16 (now (s .args .job)) (now (s .args .out)) (λ n few e. omega (arith, s .pre .0)) (s .pre .1)
+plan-requires : tie.Need-plan-requires
+plan-requires c κs = search needs
 
 same-length : tie.Need-same-length
 same-length c = search needs
 
 returns : tie.Need-returns
-returns c = c .before .before .before .plan-in .ensures .0
+returns c =
+    let s = c .before .before .before .before .before .before .before .before in
+    own-outcome 16 (now (s .args .job)) (now (s .args .out)) _ _ (λ i. c .before .before .before .before .before .before .before .shared-slice-known .given i .fits) (λ n few e. omega (arith, s .pre)) (c .before .before .before .plan .ensures .0)
 
 pub plan-16-spec : {M : Type 1} → statement M
-plan-16-spec = tie.close (tie.spec slice-aggregate-plan-in plan-in-requires same-length returns)
+plan-16-spec = tie.close (tie.spec slice-aggregate-plan plan-requires same-length returns)

@@ -1,32 +1,57 @@
--- The outcome is that of the finder: some group is no star, or the plan of the lease.
+-- What is lent is weighed against what is counted, and then the groups decide.
 use mathlib.Core.Path.{refl}
+use denote.Ref.{now}
 use borrow.Author.Needs.{needs}
-use Rattle.intersection.proofs.Held.{sets-graph}
-use Rattle.planner.specs.Call.{runsOf}
-use Rattle.planner.specs.Held.{runsIn}
-use Rattle.planner.proofs.Held.{held-few, length-plane}
-use Rattle.planner.proofs.Leased.{found-stars, found-leased}
-use Rattle.planner.proofs.Verdicts.{no-star, stars-planned}
+use lib.ListN.{length}
+use Rattle.planner.specs.Held.{jobIn}
+use Rattle.planner.proofs.Held.{held-few}
+use Rattle.planner.proofs.Stages.{surveyed, placed-within, words-is, short-work, short-plan, lent-words, lent-bytes, goes-on}
 use Rattle.planner.proofs.plan_job.Statement.{statement}
 use Rattle.planner.proofs.plan_job.Tie as tie
 
-neighbours-of-requires : tie.Need-neighbours-of-requires
-neighbours-of-requires c κs = held-few _ (c .before .before .pre .0)
+lay-out-requires : tie.Need-lay-out-requires
+lay-out-requires c κs = (held-few _ (c .before .before .before .before .before .before .before .before .pre), refl, refl, refl, refl, refl, refl)
 
-centres-of-requires : tie.Need-centres-of-requires
-centres-of-requires c κs =
-    let a = c .before .before .before .before in
-    let j = a .args .j in
-    let n = c .before .neighbours-of in
-    let few = held-few j (a .pre .0) in
-    (few, sets-graph (runsOf (runsIn j)) (j .count) few (length-plane j) (n .result) (n .ensures))
+words-for-requires : tie.Need-words-for-requires
+words-for-requires c κs = let p = c .lay-out .ensures in (p .0 .few, p .1 .few)
 
-plan-lease-requires : tie.Need-plan-lease-requires
-plan-lease-requires c κs =
-    let a = c .before .before .before .before .before .before .before .before .before in
-    let n = c .before .before .before .before .before .before .neighbours-of in
-    let f = c .before .before .before .before .centres-of in
-    (found-leased (a .args .j) (a .pre .0) (n .result) (n .ensures) (f .result) (f .ensures) (c .before .before .before .if1 .taken), record { words = a .pre .1 .words; bytes = a .pre .1 .bytes })
+returns : tie.Need-returns
+returns c =
+    let s = c .before .before .before .before .before .before .before .before .before .before .before in
+    let a = s .args in
+    let j = jobIn (a .number) (a .n) (now (a .numbers)) (now (a .x1)) (now (a .y1)) (now (a .x2)) (now (a .y2)) in
+    let p = c .before .before .lay-out in
+    (short-work j (p .result) _ _ _ _ _ _ (surveyed j (p .result) _ _ _ _ _ _ (p .ensures .0) (p .ensures .1)) (now (a .out)) (length (now (a .work))) _ (c .before .words-for .ensures) (c .if1 .taken), refl)
+
+bytes-for-requires : tie.Need-bytes-for-requires
+bytes-for-requires c κs =
+    let p = c .before .before .before .before .before .before .lay-out .ensures in
+    (held-few _ (c .before .before .before .before .before .before .before .before .before .before .before .before .before .before .before .pre), placed-within _ _ _ _ _ _ _ (p .0), placed-within _ _ _ _ _ _ _ (p .1))
+
+returns-2 : tie.Need-returns-2
+returns-2 c =
+    let s = c .before .before .before .before .before .before .before .before .before .before .before .before .before .before .before .before .before in
+    let a = s .args in
+    let j = jobIn (a .number) (a .n) (now (a .numbers)) (now (a .x1)) (now (a .y1)) (now (a .x2)) (now (a .y2)) in
+    let p = c .before .before .before .before .before .before .before .before .lay-out in
+    (short-plan j (p .result) _ _ _ _ _ _ (surveyed j (p .result) _ _ _ _ _ _ (p .ensures .0) (p .ensures .1)) (now (a .out)) (length (now (a .work))) _ (c .before .before .before .before .before .before .before .words-for .ensures) _ (c .before .bytes-for .ensures) (c .before .before .before .before .before .before .if1 .left) (c .if2 .taken), refl)
+
+plan-groups-requires : tie.Need-plan-groups-requires
+plan-groups-requires c κs =
+    let s = c .before .before .before .before .before .before .before .before .before .before .before .before .before .before .before .before .before .before .before .before .before .before .before .before .before in
+    let a = s .args in
+    let j = jobIn (a .number) (a .n) (now (a .numbers)) (now (a .x1)) (now (a .y1)) (now (a .x2)) (now (a .y2)) in
+    let p = c .before .before .before .before .before .before .before .before .before .before .before .before .before .before .before .before .lay-out in
+    let w = c .before .before .before .before .before .before .before .before .before .before .before .before .before .before .before .words-for .ensures in
+    let b = c .before .before .before .before .before .before .before .before .before .bytes-for .ensures in (
+      s .pre,
+      surveyed j (p .result) _ _ _ _ _ _ (p .ensures .0) (p .ensures .1),
+      record {
+        words = lent-words j (p .result) _ _ _ _ _ _ (surveyed j (p .result) _ _ _ _ _ _ (p .ensures .0) (p .ensures .1)) (now (a .out)) (length (now (a .work))) _ w _ b (c .before .before .before .before .before .before .before .before .before .before .before .before .before .before .if1 .left) (c .before .before .before .before .before .before .before .before .if2 .left);
+        bytes = lent-bytes j (p .result) _ _ _ _ _ _ (surveyed j (p .result) _ _ _ _ _ _ (p .ensures .0) (p .ensures .1)) (now (a .out)) (length (now (a .work))) _ w _ b (c .before .before .before .before .before .before .before .before .before .before .before .before .before .before .if1 .left) (c .before .before .before .before .before .before .before .before .if2 .left);
+      },
+      words-is j (p .result) _ _ _ _ _ _ (surveyed j (p .result) _ _ _ _ _ _ (p .ensures .0) (p .ensures .1)) (now (a .out)) (length (now (a .work))) _ w,
+    )
 
 same-length : tie.Need-same-length
 same-length c = search needs
@@ -34,33 +59,25 @@ same-length c = search needs
 same-length-2 : tie.Need-same-length-2
 same-length-2 c = search needs
 
-returns : tie.Need-returns
-returns c =
-    let a = c .before .before .before .before .before .before .before .before .before .before .before .before .before .before in
-    let j = a .args .j in
-    let n = c .before .before .before .before .before .before .before .before .before .before .before .neighbours-of in
-    let f = c .before .before .before .before .before .before .before .before .before .centres-of in
-    let p = c .before .before .before .before .plan-lease .ensures in (
-      stars-planned (j .number) _ (runsIn j) _ _ (found-stars j (a .pre .0) (n .result) (n .ensures) (f .result) (f .ensures) _ (c .before .before .before .before .before .before .before .before .if1 .taken)) (p .0),
-      p .1,
-    )
-
-returns-2 : tie.Need-returns-2
-returns-2 c =
-    let a = c .before .before .before .before .before .before in
-    let j = a .args .j in
-    let n = c .before .before .before .neighbours-of in
-    let f = c .before .centres-of in
-    (no-star (j .number) _ (runsIn j) (found-stars j (a .pre .0) (n .result) (n .ensures) (f .result) (f .ensures) _ (c .if1 .left)), refl)
+returns-3 : tie.Need-returns-3
+returns-3 c =
+    let s = c .before .before .before .before .before .before .before .before .before .before .before .before .before .before .before .before .before .before .before .before .before .before .before .before .before .before .before .before .before .before in
+    let a = s .args in
+    let j = jobIn (a .number) (a .n) (now (a .numbers)) (now (a .x1)) (now (a .y1)) (now (a .x2)) (now (a .y2)) in
+    let p = c .before .before .before .before .before .before .before .before .before .before .before .before .before .before .before .before .before .before .before .before .before .lay-out in
+    let g = c .before .before .before .before .plan-groups .ensures in
+    (goes-on j (p .result) _ _ _ _ _ _ (surveyed j (p .result) _ _ _ _ _ _ (p .ensures .0) (p .ensures .1)) (now (a .out)) (length (now (a .work))) _ (c .before .before .before .before .before .before .before .before .before .before .before .before .before .before .before .before .before .before .before .before .words-for .ensures) _ (c .before .before .before .before .before .before .before .before .before .before .before .before .before .before .bytes-for .ensures) (c .before .before .before .before .before .before .before .before .before .before .before .before .before .before .before .before .before .before .before .if1 .left) (c .before .before .before .before .before .before .before .before .before .before .before .before .before .if2 .left) _ _ (g .0), g .1)
 
 pub plan-job-spec : {M : Type 1} → statement M
 plan-job-spec =
     tie.close
     (tie.spec
-    neighbours-of-requires
-    centres-of-requires
-    plan-lease-requires
+    lay-out-requires
+    words-for-requires
+    returns
+    bytes-for-requires
+    returns-2
+    plan-groups-requires
     same-length
     same-length-2
-    returns
-    returns-2)
+    returns-3)

@@ -1,37 +1,16 @@
--- The stages' promises are put together by the laws of `Stages`.
+-- By the tests on the runs and the lines.
 use borrow.Author.Needs.{needs}
-use Rattle.planner.specs.Call.{runsOf}
-use Rattle.planner.specs.Held.{runsIn}
-use Rattle.planner.proofs.Held.{held-few}
-use Rattle.planner.proofs.Stages.{lease-surveyed, axes-lined, drawn}
+use borrow.Author.Tests.{leb-true}
+use Rattle.network.proofs.Tests.{and-split}
 use Rattle.planner.proofs.plan_lease.Statement.{statement}
 use Rattle.planner.proofs.plan_lease.Tie as tie
 
-columns-of-requires : tie.Need-columns-of-requires
-columns-of-requires c κs = let a = c .before .before in held-few (a .args .j) (a .pre .0 .held)
-
-rows-of-requires : tie.Need-rows-of-requires
-rows-of-requires c κs = let a = c .before .before .before in held-few (a .args .j) (a .pre .0 .held)
-
-lay-requires : tie.Need-lay-requires
-lay-requires c κs =
-    let a = c .before .before .before .before .before .before .before .before .before in
-    let x = c .before .before .before .before .before .before .columns-of in
-    let y = c .before .before .before .before .before .rows-of in (
-      (runsOf (runsIn (a .args .j)), lease-surveyed (a .args .j) (a .args .t2) (a .args .t3) (a .pre .0) (x .result) (y .result) (x .ensures) (y .ensures)),
-      a .pre .1 .words,
-    )
-
-write-requires : tie.Need-write-requires
-write-requires c κs =
-    let a = c .before .before .before .before .before .before .before .before .before .before .before .before .before .before .before in
-    let x = c .before .before .before .before .before .before .before .before .before .before .before .before .columns-of in
-    let y = c .before .before .before .before .before .before .before .before .before .before .before .rows-of in (
-      a .pre .0,
-      c .before .before .before .before .before .lay .ensures .0 _ (lease-surveyed (a .args .j) (a .args .t2) (a .args .t3) (a .pre .0) (x .result) (y .result) (x .ensures) (y .ensures)),
-      axes-lined (a .args .j) (a .args .t2) (a .args .t3) (a .pre .0) (x .result) (y .result) (x .ensures) (y .ensures),
-      a .pre .1 .bytes,
-    )
+plan-few-requires : tie.Need-plan-few-requires
+plan-few-requires c κs =
+    let p = c .before .before .before .before .before .before .before .pre in
+    let (h, n) = and-split _ _ (c .before .before .if1 .taken) in
+    let (x, y) = and-split _ _ h in
+    (p .0, p .1, record { words = p .2 .words; bytes = p .2 .bytes }, record { runs = leb-true _ 8 n; columns = leb-true _ 16 x; rows = leb-true _ 16 y })
 
 same-length : tie.Need-same-length
 same-length c = search needs
@@ -40,24 +19,29 @@ same-length-2 : tie.Need-same-length-2
 same-length-2 c = search needs
 
 returns : tie.Need-returns
-returns c =
-    let a = c .before .before .before .before .before .before .before .before .before .before .before .before .before .before .before .before .before .before in
-    let x = c .before .before .before .before .before .before .before .before .before .before .before .before .before .before .before .columns-of in
-    let y = c .before .before .before .before .before .before .before .before .before .before .before .before .before .before .rows-of in
-    let l = c .before .before .before .before .before .before .before .before .lay in (
-      drawn (a .args .j) (l .result) (l .ensures .0 _ (lease-surveyed (a .args .j) (a .args .t2) (a .args .t3) (a .pre .0) (x .result) (y .result) (x .ensures) (y .ensures)))
-          _ _ _ (c .before .before .write .ensures),
-      l .ensures .1,
-    )
+returns c = c .before .before .before .before .plan-few .ensures
+
+plan-many-requires : tie.Need-plan-many-requires
+plan-many-requires c κs = let p = c .before .before .before .before .before .before .before .pre in (p .0, p .1, record { words = p .2 .words; bytes = p .2 .bytes })
+
+same-length-3 : tie.Need-same-length-3
+same-length-3 c = search needs
+
+same-length-4 : tie.Need-same-length-4
+same-length-4 c = search needs
+
+returns-2 : tie.Need-returns-2
+returns-2 c = c .before .before .before .before .plan-many .ensures
 
 pub plan-lease-spec : {M : Type 1} → statement M
 plan-lease-spec =
     tie.close
     (tie.spec
-    columns-of-requires
-    rows-of-requires
-    lay-requires
-    write-requires
+    plan-few-requires
     same-length
     same-length-2
-    returns)
+    returns
+    plan-many-requires
+    same-length-3
+    same-length-4
+    returns-2)

@@ -4,7 +4,7 @@ use Rattle.planner.proofs.plan_own.Statement.{statement}
 use Rattle.planner.proofs.plan_own.Tie as tie
 
 plan-8-requires : tie.Need-plan-8-requires
-plan-8-requires c κs = (c .before .if1 .taken, c .before .before .before .before .pre)
+plan-8-requires c κs = c .before .if1 .taken
 
 same-length : tie.Need-same-length
 same-length c = search needs
@@ -13,7 +13,7 @@ returns : tie.Need-returns
 returns c = c .before .before .plan-8 .ensures
 
 plan-16-requires : tie.Need-plan-16-requires
-plan-16-requires c κs = (c .before .if2 .taken, c .before .before .before .before .before .pre)
+plan-16-requires c κs = c .before .if2 .taken
 
 same-length-2 : tie.Need-same-length-2
 same-length-2 c = search needs
@@ -22,7 +22,7 @@ returns-2 : tie.Need-returns-2
 returns-2 c = c .before .before .plan-16 .ensures
 
 plan-24-requires : tie.Need-plan-24-requires
-plan-24-requires c κs = (c .before .if3 .taken, c .before .before .before .before .before .before .pre)
+plan-24-requires c κs = c .before .if3 .taken
 
 same-length-3 : tie.Need-same-length-3
 same-length-3 c = search needs
@@ -31,7 +31,7 @@ returns-3 : tie.Need-returns-3
 returns-3 c = c .before .before .plan-24 .ensures
 
 plan-32-requires : tie.Need-plan-32-requires
-plan-32-requires c κs = c .before .before .before .before .before .before .pre
+plan-32-requires c κs = search needs
 
 same-length-4 : tie.Need-same-length-4
 same-length-4 c = search needs

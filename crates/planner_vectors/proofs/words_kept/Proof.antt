@@ -6,19 +6,19 @@ use Rattle.planner_vectors.proofs.words_kept.Statement.{statement}
 use Rattle.planner_vectors.proofs.words_kept.Tie as tie
 
 abbrev Inv-loop : tie.InvT-loop
-Inv-loop work i₀ i = Unit {0}
+Inv-loop work cleared i₀ i = Unit {0}
 
 abbrev μ-loop : tie.MeasureT-loop
-μ-loop work i₀ i = length work - i
+μ-loop work cleared i₀ i = length work - i
 
 loop-holds : tie.Need-loop-holds Inv-loop μ-loop
 loop-holds c = search needs
 
-mul-if1 : tie.Need-mul-if1 Inv-loop μ-loop
-mul-if1 c = search needs
+mul-if2 : tie.Need-mul-if2 Inv-loop μ-loop
+mul-if2 c = search needs
 
-shared-slice-read-if1 : tie.Need-shared-slice-read-if1 Inv-loop μ-loop
-shared-slice-read-if1 c = search needs
+shared-slice-read-if2 : tie.Need-shared-slice-read-if2 Inv-loop μ-loop
+shared-slice-read-if2 c = search needs
 
 returns : tie.Need-returns Inv-loop μ-loop
 returns c = search needs
@@ -42,8 +42,8 @@ words-kept-spec =
     Inv-loop
     μ-loop
     loop-holds
-    mul-if1
-    shared-slice-read-if1
+    mul-if2
+    shared-slice-read-if2
     returns
     add-i
     loop-less

@@ -26,14 +26,14 @@ array-share-prefix-out c =
     let d = c .before .before .before .before .before in
     let p = d .plan in
     let job = now (d .before .before .before .before .before .args .job) in
-    omega (arith, plan-within job (p .result) (p .last .1 .1 .0) (answered job (p .result) (p .last .1 .1 .0) (p .ensures .0)) _ (c .before .answer .given .1))
+    omega (arith, plan-within job (p .result) (p .last .1 .1 .0) (answered job (p .result) (p .last .1 .1 .0) (λ i. d .before .before .before .before .shared-slice-known .given i .fits) (p .ensures .0)) _ (c .before .answer .given .1))
 
 slice-aggregate-list-plan : tie.Need-slice-aggregate-list-plan
 slice-aggregate-list-plan c =
     let d = c .before .before .before .before .before .before in
     let p = d .plan in
     let job = now (d .before .before .before .before .before .args .job) in
-    let h = plan-within job (p .result) (p .last .1 .1 .0) (answered job (p .result) (p .last .1 .1 .0) (p .ensures .0)) _ (c .before .before .answer .given .1) in
+    let h = plan-within job (p .result) (p .last .1 .1 .0) (answered job (p .result) (p .last .1 .1 .0) (λ i. d .before .before .before .before .shared-slice-known .given i .fits) (p .ensures .0)) _ (c .before .before .answer .given .1) in
     sym (length-take-le _ (p .last .1 .1 .0) (omega (arith, h)))
 
 list-plan-requires : tie.Need-list-plan-requires
@@ -55,7 +55,7 @@ returns c =
     let d = c .before .before .before .before .before .before .before .before .before .before in
     let p = d .plan in
     let job = now (d .before .before .before .before .before .args .job) in
-    let call = answered job (p .result) (p .last .1 .1 .0) (p .ensures .0) in
+    let call = answered job (p .result) (p .last .1 .1 .0) (λ i. d .before .before .before .before .shared-slice-known .given i .fits) (p .ensures .0) in
     (plan-reported job (p .result) (p .last .1 .1 .0) call _ _ _ (λ i. d .before .before .before .before .shared-slice-known .given i .fits) _ (a .given .1) l, (l .within, l .front))
 
 same-length-2 : tie.Need-same-length-2
@@ -68,7 +68,7 @@ returns-2 c =
     let d = c .before .before .before .before .before .before .before .before .before in
     let p = d .plan in
     let job = now (d .before .before .before .before .before .args .job) in
-    let call = answered job (p .result) (p .last .1 .1 .0) (p .ensures .0) in
+    let call = answered job (p .result) (p .last .1 .1 .0) (λ i. d .before .before .before .before .shared-slice-known .given i .fits) (p .ensures .0) in
     (refusal-reported job (p .result) (p .last .1 .1 .0) call _ _ _ _ (a .given .1) l, (l .within, l .front))
 
 pub list-job-spec : {M : Type 1} → statement M

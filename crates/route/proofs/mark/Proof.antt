@@ -14,27 +14,43 @@ mul-k c = search needs
 add-k : tie.Need-add-k
 add-k c = search needs
 
-element-copy-out-before : tie.Need-element-copy-out-before
-element-copy-out-before c = search needs
+slice-read-before : tie.Need-slice-read-before
+slice-read-before c = search needs
 
 digits-of-requires : tie.Need-digits-of-requires
 digits-of-requires c κs = search needs
 
-element-write-marks : tie.Need-element-write-marks
-element-write-marks c = search needs
+slice-write-marks : tie.Need-slice-write-marks
+slice-write-marks c = search needs
+
+same-length : tie.Need-same-length
+same-length c = search needs
 
 returns : tie.Need-returns
 returns c =
-    let s = c .before .before .before in
+    let s = c .before .before .before .before in
     let a = s .args in
-    (mark-one (a .marks .now) (indexesOf (a .v)) (λ d. a .corner || along d (dirOf (a .heading))) (s .pre .0) (s .pre .1) _ (c .before .digits-of .ensures) true (c .if1 .taken), omega arith)
+    (mark-one (a .width) (a .marks .now) (indexesOf (a .v)) (λ d. a .corner || along d (dirOf (a .heading))) (s .pre .0) _ (c .before .digits-of .ensures) true (c .if1 .taken), omega arith)
+
+same-length-2 : tie.Need-same-length-2
+same-length-2 c = search needs
 
 returns-2 : tie.Need-returns-2
 returns-2 c =
-    let s = c .before .before .before in
+    let s = c .before .before .before .before in
     let a = s .args in
-    (mark-one (a .marks .now) (indexesOf (a .v)) (λ d. a .corner || along d (dirOf (a .heading))) (s .pre .0) (s .pre .1) _ (c .before .digits-of .ensures) false (c .if1 .left), omega arith)
+    (mark-one (a .width) (a .marks .now) (indexesOf (a .v)) (λ d. a .corner || along d (dirOf (a .heading))) (s .pre .0) _ (c .before .digits-of .ensures) false (c .if1 .left), omega arith)
 
 pub mark-spec : {M : Type 1} → statement M
 mark-spec =
-    tie.close (tie.spec mul-k add-k element-copy-out-before digits-of-requires element-write-marks returns returns-2)
+    tie.close
+    (tie.spec
+    mul-k
+    add-k
+    slice-read-before
+    digits-of-requires
+    slice-write-marks
+    same-length
+    returns
+    same-length-2
+    returns-2)

@@ -1,29 +1,29 @@
 -- `table_rounds::go_round` is safe and keeps the length. The loop's invariant: the words are as many as at first, and the sum is below 65,536.
-use mathlib.Core.Path.{_≡_, _∙_}
-use Prim.Native.Nat.{_-_, _≤_, _<_}
-use native.Mathlib.Omega.{arith}
 use borrow.Author.Needs.{needs}
+use mathlib.Core.Path.{_≡_, refl, _∙_}
+use Prim.Native.Nat.{_-_, _≤_, _<_}
 use lib.ListN.{length}
+use native.Mathlib.Omega.{arith}
 use Rattle.table_rounds.proofs.go_round.Statement.{statement}
 use Rattle.table_rounds.proofs.go_round.Tie as tie
 
 abbrev Inv-loop : tie.InvT-loop
-Inv-loop work₀ g rounds sum₀ i₀ work sum i = (i ≤ rounds) × (sum < 65536) × (length work ≡ length work₀)
+Inv-loop work₀ cols rows g rounds steps₀ shares₀ sum₀ i₀ work steps shares sum i = (i ≤ rounds) × (sum < 65536) × (length work ≡ length work₀) × (length steps ≡ 128) × (length shares ≡ 128)
 
 abbrev μ-loop : tie.MeasureT-loop
-μ-loop work₀ g rounds sum₀ i₀ work sum i = rounds - i
+μ-loop work₀ cols rows g rounds steps₀ shares₀ sum₀ i₀ work steps shares sum i = rounds - i
 
 loop-holds : tie.Need-loop-holds Inv-loop μ-loop
-loop-holds c = search needs
+loop-holds c = (omega arith, omega arith, refl, refl, refl)
 
 fill-requires : tie.Need-fill-requires Inv-loop μ-loop
 fill-requires c κs = c .before .before .before .before .pre .1 _ (omega arith)
 
 trace-of-requires : tie.Need-trace-of-requires Inv-loop μ-loop
-trace-of-requires c κs = c .before .before .before .before .before .before .before .before .pre .1 _ (omega (arith, c .before .before .before .fill .ensures .1 .size))
+trace-of-requires c κs = (c .before .before .before .before .before .before .before .before .before .before .pre .1 _ (omega (arith, c .before .before .before .before .before .fill .ensures .1 .size)), c .before .before .before .before .before .before .before .before .loop .inv .3, c .before .before .before .before .before .before .before .before .loop .inv .4)
 
-element-copy-out-wide : tie.Need-element-copy-out-wide Inv-loop μ-loop
-element-copy-out-wide c = search needs
+array-read-wide : tie.Need-array-read-wide Inv-loop μ-loop
+array-read-wide c = omega (arith, c .trace-of .ensures .3)
 
 wide-requires : tie.Need-wide-requires Inv-loop μ-loop
 wide-requires c κs = search needs
@@ -31,8 +31,8 @@ wide-requires c κs = search needs
 add-sum : tie.Need-add-sum Inv-loop μ-loop
 add-sum c = omega arith
 
-element-copy-out-wide-2 : tie.Need-element-copy-out-wide-2 Inv-loop μ-loop
-element-copy-out-wide-2 c = search needs
+array-read-wide-2 : tie.Need-array-read-wide-2 Inv-loop μ-loop
+array-read-wide-2 c = omega (arith, c .before .trace-of .ensures .2)
 
 wide-requires-2 : tie.Need-wide-requires-2 Inv-loop μ-loop
 wide-requires-2 c κs = search needs
@@ -51,8 +51,8 @@ loop-less c = omega arith
 
 loop-again : tie.Need-loop-again Inv-loop μ-loop
 loop-again c =
-    let f = c .before .before .before .before .before .before .before .before in
-    (omega arith, omega arith, f .fill .ensures .1 .size ∙ f .before .before .before .loop .inv .2)
+    let t = c .before .before .trace-of .ensures in
+    (omega arith, omega arith, c .before .before .before .before .before .before .before .before .fill .ensures .1 .size ∙ c .before .before .before .before .before .before .before .before .before .before .before .loop .inv .2, t .2, t .3)
 
 same-length : tie.Need-same-length Inv-loop μ-loop
 same-length c = search needs
@@ -69,10 +69,10 @@ go-round-spec =
     loop-holds
     fill-requires
     trace-of-requires
-    element-copy-out-wide
+    array-read-wide
     wide-requires
     add-sum
-    element-copy-out-wide-2
+    array-read-wide-2
     wide-requires-2
     mul-sum
     add-sum-2

@@ -26,7 +26,7 @@ loop-holds : tie.Need-loop-holds Inv-loop μ-loop
 loop-holds c = (omega arith, refl)
 
 is-local-requires : tie.Need-is-local-requires Inv-loop μ-loop
-is-local-requires c κs = (omega arith, c .before .before .lone-runs .ensures)
+is-local-requires c κs = (c .before .before .before .pre .0, c .before .before .before .pre .1, omega arith, c .before .before .lone-runs .ensures)
 
 returns : tie.Need-returns Inv-loop μ-loop
 returns c =

@@ -22,7 +22,7 @@ returns : tie.Need-returns
 returns c =
     let a = c .before .before .before .args in
     let p = c .before .before .before .pre in
-    ap₂ _||_ (c .before .before .member .ensures) (c .subset .ensures) ∙ local-is (a .neighbours .now) (a .i) (a .lone) (p .0) (p .1)
+    ap₂ _||_ (c .before .before .member .ensures) (c .subset .ensures) ∙ local-is (a .neighbours .now) (a .n) (a .i) (a .lone) (p .1) (p .2) (p .3)
 
 pub is-local-spec : {M : Type 1} → statement M
 is-local-spec =

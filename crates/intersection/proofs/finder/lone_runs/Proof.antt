@@ -10,10 +10,10 @@ use Rattle.intersection.proofs.finder.lone_runs.Statement.{statement}
 use Rattle.intersection.proofs.finder.lone_runs.Tie as tie
 
 abbrev Inv-loop : tie.InvT-loop
-Inv-loop neighbours found₀ i₀ found i = (i ≤ 32) × (found ≡ pack (isLone (joinedIn neighbours) 32) i)
+Inv-loop neighbours n found₀ i₀ found i = (i ≤ n) × (found ≡ pack (isLone (joinedIn neighbours) 32) i)
 
 abbrev μ-loop : tie.MeasureT-loop
-μ-loop neighbours found₀ i₀ found i = 32 - i
+μ-loop neighbours n found₀ i₀ found i = n - i
 
 loop-holds : tie.Need-loop-holds Inv-loop μ-loop
 loop-holds c = (omega arith, sym (pack-none _))
@@ -33,7 +33,7 @@ loop-again c = (omega arith, c .with-lone .ensures)
 returns : tie.Need-returns Inv-loop μ-loop
 returns c =
     let l = c .before .loop in
-    let e : l .i ≡ 32 = omega arith in
+    let e : l .i ≡ c .before .before .args .n = omega arith in
     l .inv .1 ∙ ap (pack (isLone (joinedIn (c .before .before .args .neighbours .now)) 32)) e
 
 pub lone-runs-spec : {M : Type 1} → statement M

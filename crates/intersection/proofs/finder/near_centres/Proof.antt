@@ -1,5 +1,5 @@
 -- The invariant: the array holds the centres of the runs passed.
-use mathlib.Core.Path.{_≡_, refl, ap, _∙_}
+use mathlib.Core.Path.{_≡_, ap, _∙_}
 use Prim.Native.Nat.{ℕ, _≤_, _-_}
 use native.Mathlib.Omega.{arith}
 use Rattle.grid.specs.Tables.{table, padded}
@@ -16,7 +16,7 @@ abbrev μ-loop : tie.MeasureT-loop
 μ-loop neighbours n centres₀ i₀ centres i = n - i
 
 loop-holds : tie.Need-loop-holds Inv-loop μ-loop
-loop-holds c = (omega arith, refl)
+loop-holds c = (omega arith, c .pre .1)
 
 centre-at-requires : tie.Need-centre-at-requires Inv-loop μ-loop
 centre-at-requires c κs = omega arith
@@ -24,8 +24,8 @@ centre-at-requires c κs = omega arith
 mul-centres : tie.Need-mul-centres Inv-loop μ-loop
 mul-centres c = omega arith
 
-array-write-centres : tie.Need-array-write-centres Inv-loop μ-loop
-array-write-centres c = omega arith
+element-write-centres : tie.Need-element-write-centres Inv-loop μ-loop
+element-write-centres c = omega arith
 
 add-i : tie.Need-add-i Inv-loop μ-loop
 add-i c = omega arith
@@ -54,7 +54,7 @@ near-centres-spec =
     loop-holds
     centre-at-requires
     mul-centres
-    array-write-centres
+    element-write-centres
     add-i
     loop-less
     loop-again

@@ -5,25 +5,22 @@ use Rattle.planner.proofs.Writing.{saved-below, head-is}
 use Rattle.planner.proofs.writer.head_of.Statement.{statement}
 use Rattle.planner.proofs.writer.head_of.Tie as tie
 
-cast-t7 : tie.Need-cast-t7
-cast-t7 c = search needs
+cast-t8 : tie.Need-cast-t8
+cast-t8 c = search needs
 
-sub-t8 : tie.Need-sub-t8
-sub-t8 c =
-    let a = c .before in
-    let H = a .pre .1 in
-    omega (arith, saved-below (a .args .j) (H .held) (a .pre .0) (H .laid-out), H .total-is, H .saved-is)
+sub-t9 : tie.Need-sub-t9
+sub-t9 c = let H = c .pre .2 in omega (arith, saved-below (c .pre .0) (H .held) (c .pre .1) (H .laid-out), H .total-is, H .saved-is)
 
-cast-t10 : tie.Need-cast-t10
-cast-t10 c = search needs
+cast-t11 : tie.Need-cast-t11
+cast-t11 c = search needs
 
-cast-t12 : tie.Need-cast-t12
-cast-t12 c = search needs
+cast-t13 : tie.Need-cast-t13
+cast-t13 c = search needs
 
 returns : tie.Need-returns
 returns c =
-    let a = c .before .args in
-    λ laid H. head-is (a .j) (H .held) laid (H .laid-out) (a .groups) (a .total) (a .saved) (a .pits) (H .groups-are) (H .few) (H .total-is) (H .saved-is) (H .pits-are) (H .few-pits)
+    let a = c .args in
+    λ j laid H. head-is j (H .held) laid (H .laid-out) (a .number) (a .n) (a .groups) (a .total) (a .saved) (a .pits) (H .number-is) (H .count-is) (H .groups-are) (H .few) (H .total-is) (H .saved-is) (H .pits-are) (H .few-pits)
 
 pub head-of-spec : {M : Type 1} → statement M
-head-of-spec = tie.close (tie.spec cast-t7 sub-t8 cast-t10 cast-t12 returns)
+head-of-spec = tie.close (tie.spec cast-t8 sub-t9 cast-t11 cast-t13 returns)

@@ -4,8 +4,8 @@ use borrow.Author.Needs.{needs}
 use Rattle.route.proofs.Walker.step.Statement.{statement}
 use Rattle.route.proofs.Walker.step.Tie as tie
 
-element-copy-out-step : tie.Need-element-copy-out-step
-element-copy-out-step c = search needs
+shared-slice-read-step : tie.Need-shared-slice-read-step
+shared-slice-read-step c = search needs
 
 ahead-requires : tie.Need-ahead-requires
 ahead-requires c κs = search needs
@@ -13,12 +13,12 @@ ahead-requires c κs = search needs
 heading-of-requires : tie.Need-heading-of-requires
 heading-of-requires c κs = search needs
 
-add-t12 : tie.Need-add-t12
-add-t12 c = search needs
+add-t10 : tie.Need-add-t10
+add-t10 c = search needs
 
 returns : tie.Need-returns
 returns c = rw (c .before .before .ahead .ensures, c .before .heading-of .ensures, add-one)
 
 pub step-spec : {M : Type 1} → statement M
 step-spec =
-    tie.close (tie.spec element-copy-out-step ahead-requires heading-of-requires add-t12 returns)
+    tie.close (tie.spec shared-slice-read-step ahead-requires heading-of-requires add-t10 returns)

@@ -1,47 +1,52 @@
 -- Before each turn the sets are those of the runs below k.
+use borrow.Author.Needs.{needs}
 use Prim.Native.Nat.{ℕ, _≤_, _<_, _-_}
-use mathlib.Core.Path.{_≡_, refl, _∙_, sym}
+use mathlib.Core.Path.{_≡_, _∙_, sym}
 use lib.ListN.{length, getD, getD-replicate}
 use Rattle.table.specs.Side.{leavesOn}
 use Rattle.table.proofs.Boxes.{leaves-none, leaves-more, leaves-lt}
-use borrow.Author.Needs.{needs}
 use native.Mathlib.Omega.{arith}
 use Rattle.table.proofs.side.leaves_on.Statement.{statement}
 use Rattle.table.proofs.side.leaves_on.Tie as tie
 
 abbrev Inv-loop : tie.InvT-loop
-Inv-loop n leaves s t₀ k₀ t k = (k ≤ n) × (length t ≡ 64) × ((i : ℕ) → i < 64 → getD t i 0 ≡ leavesOn s k leaves i)
+Inv-loop first second n leaves t₀ k₀ t k = (k ≤ n) × (length t ≡ 64) × ((i : ℕ) → i < 64 → getD t i 0 ≡ leavesOn first second k leaves i)
 
 abbrev μ-loop : tie.MeasureT-loop
-μ-loop n leaves s t₀ k₀ t k = n - k
+μ-loop first second n leaves t₀ k₀ t k = n - k
 
 loop-holds : tie.Need-loop-holds Inv-loop μ-loop
-loop-holds c = (search needs, refl, λ i h. getD-replicate 64 i 0 0 h ∙ sym (leaves-none (c .args .t1) (c .args .leaves) i))
+loop-holds c = (search needs, rw (c .pre .2), λ i h. rw (c .pre .2) (getD-replicate 64 i 0 0 h ∙ sym (leaves-none (c .args .first .now) (c .args .second .now) (c .args .leaves) i)))
 
-element-copy-out-wide : tie.Need-element-copy-out-wide Inv-loop μ-loop
-element-copy-out-wide c = search needs
+mul-p : tie.Need-mul-p Inv-loop μ-loop
+mul-p c = search needs
 
-wide-requires : tie.Need-wide-requires Inv-loop μ-loop
-wide-requires c κs = search needs
+element-copy-out-p : tie.Need-element-copy-out-p Inv-loop μ-loop
+element-copy-out-p c = search needs
 
-element-copy-out-wide-2 : tie.Need-element-copy-out-wide-2 Inv-loop μ-loop
-element-copy-out-wide-2 c = search needs
+cast-p : tie.Need-cast-p Inv-loop μ-loop
+cast-p c = omega (arith, c .before .before .before .pre .1 (c .before .before .loop .k) (omega arith))
 
-wide-requires-2 : tie.Need-wide-requires-2 Inv-loop μ-loop
-wide-requires-2 c κs = search needs
+mul-q : tie.Need-mul-q Inv-loop μ-loop
+mul-q c = search needs
+
+element-copy-out-q : tie.Need-element-copy-out-q Inv-loop μ-loop
+element-copy-out-q c = search needs
+
+cast-q : tie.Need-cast-q Inv-loop μ-loop
+cast-q c = omega (arith, c .before .before .before .before .pre .1 (c .before .before .before .loop .k) (omega arith))
 
 put-run-requires : tie.Need-put-run-requires Inv-loop μ-loop
 put-run-requires c κs =
-    let w = c .before in
-    let l = w .before .before .before .before .before in
+    let l = c .before .before .before .before in
     let s = l .before in
     let k = l .loop .k in
     let p = s .pre .1 k (omega arith) in (
       l .loop .inv .1,
       omega arith,
-      omega (arith, w .before .before .wide .ensures),
-      omega (arith, w .wide2 .ensures),
-      λ i h. rw (l .loop .inv .2 i h) (leaves-lt (s .args .t1) k (s .args .leaves) i),
+      p .0,
+      p .1,
+      λ i h. rw (l .loop .inv .2 i h) (leaves-lt (s .args .first .now) (s .args .second .now) k (s .args .leaves) i),
     )
 
 add-k : tie.Need-add-k Inv-loop μ-loop
@@ -52,20 +57,18 @@ loop-less c = search needs
 
 loop-again : tie.Need-loop-again Inv-loop μ-loop
 loop-again c =
-    let w = c .before .before in
-    let l = w .before .before .before .before .before in
+    let l = c .before .before .before .before .before in
     let s = l .before .args in (
       search needs,
       c .put-run .ensures .0,
-      λ i h. rw (leaves-more (s .t1) (l .loop .k) (s .leaves) i, ← l .loop .inv .2 i h, ← w .wide2 .ensures, ← w .before .before .wide .ensures) (c .put-run .ensures .1 i),
+      λ i h. rw (leaves-more (s .first .now) (s .second .now) (l .loop .k) (s .leaves) i, ← l .loop .inv .2 i h) (c .put-run .ensures .1 i),
     )
 
 returns : tie.Need-returns Inv-loop μ-loop
 returns c =
-    λ i h.
     let l = c .before .loop in
     let e : l .k ≡ c .before .before .args .n = omega arith in
-    rw (← e) (l .inv .2 i h)
+    (l .inv .1, λ i h. rw (← e) (l .inv .2 i h))
 
 pub leaves-on-spec : {M : Type 1} → statement M
 leaves-on-spec =
@@ -74,10 +77,12 @@ leaves-on-spec =
     Inv-loop
     μ-loop
     loop-holds
-    element-copy-out-wide
-    wide-requires
-    element-copy-out-wide-2
-    wide-requires-2
+    mul-p
+    element-copy-out-p
+    cast-p
+    mul-q
+    element-copy-out-q
+    cast-q
     put-run-requires
     add-k
     loop-less
