@@ -30,7 +30,7 @@ module _ (r : Route) (held : r .count ≤ length (r .steps)) where
 
   pub on-grid : (across : ℕ) → across ≡ steps hor (take (r .count) (stepsOf r)) → Fits (below 64) (lane (r .right) (r .start .column) across)
       → Fits (below 64) (lane (r .up) (r .start .row) (r .count - across)) → OnGrid numbered r
-  unfolding numbered
+  unfolding indexed
   on-grid across e x y =
       let n = steps-length r held in
       let a : across ≡ steps hor (stepsOf r) = e ∙ ap (steps hor) (take-all (r .count) (stepsOf r) (omega arith)) in
@@ -45,5 +45,5 @@ routes-more steps stride tracks k a p = rw (add-one k) (all-append (OnGrid numbe
 
 -- routes on 64 columns and 64 rows have their marks among 4096
 pub marks-suffice : (l : List Route) → All (OnGrid numbered) l → All (OnGrid (indexed 64 (length (replicate {A = ℕ} 4096 0) / 64))) l
-unfolding numbered
+unfolding indexed
 marks-suffice = on-marks 64 64 (length (replicate {A = ℕ} 4096 0)) numbered (omega (arith, length-below 64)) (omega (arith, length-below 64)) (omega (arith, length-replicate {A = ℕ} 4096 0))

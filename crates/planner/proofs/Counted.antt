@@ -1,7 +1,7 @@
 -- The forecast is counted from the lines, and from the places of the runs' points among them.
 use mathlib.Core.Path.{_≡_, refl, sym, ap, ap₂, _∙_}
 use mathlib.Core.List.{List}
-use Prim.Native.Nat.{ℕ, zero, suc, _+_, _-_, _*_, _≤_, _<_}
+use Prim.Native.Nat.{ℕ, zero, suc, _+_, _-_, _*_, _<_}
 use native.Mathlib.Omega.{arith}
 use native.Mathlib.Numerals.{add-one}
 use lib.ListN.{getD}
@@ -84,8 +84,3 @@ module _ (first second : List ℕ) where
   steps-more n =
       let f : ℕ → ℕ = λ k. gap (getD first k 0) (getD second k 0) in
       ap (λ m. sum f (below m)) (add-one n) ∙ omega (arith, sum-below f (suc n), sum-below f n)
-
--- no more than there are lines
-pub gap-most : (a b m : ℕ) → a ≤ m → b ≤ m → gap a b ≤ m
-unfolding gap
-gap-most a b m h k = omega arith

@@ -23,6 +23,7 @@ use Rattle.job.proofs.Accepted.{accepted-well-formed, accepted-length}
 use Rattle.table.specs.Rule.{Beyond}
 use Rattle.table.specs.Side.{Side, sideOf, Sided}
 use Rattle.table.specs.OnSides.{OnSides}
+use Rattle.table.proofs.Lines.{gap-lt}
 use Rattle.table.proofs.Survey.{on-sides, short}
 use Rattle.grid.specs.declared.Axis.{Axis}
 use Rattle.grid.specs.Tables.{table, padded}
@@ -46,7 +47,7 @@ use Rattle.planner.proofs.Held.{length-held, plane-held, length-plane, 
 use Rattle.planner.proofs.Judged.{centre-judged}
 use Rattle.planner.proofs.Fits.{few-lines}
 use Rattle.planner.proofs.Room.{words-few, words-most}
-use Rattle.planner.proofs.Counted.{words-counted, bytes-counted, gap-most}
+use Rattle.planner.proofs.Counted.{words-counted, bytes-counted}
 use Rattle.planner.proofs.Verdicts.{few-words, few-bytes, weighs, read-weighed, unread, same-weighed}
 
 -- ---- one axis
@@ -104,7 +105,7 @@ module _ (j : Job) (size : Size) (columns rows xa xb ya yb : List ℕ) (S : Surv
         enough = λ k l.
             let (a, b) = placed-most (j .x1) (j .x2) (j .count) (size .across) columns xa xb (S .on-columns) k l in
             let (c, d) = placed-most (j .y1) (j .y2) (j .count) (size .down) rows ya yb (S .on-rows) k l in
-            omega (arith, gap-most (getD xa k 0) (getD xb k 0) (size .across) a b, gap-most (getD ya k 0) (getD yb k 0) (size .down) c d);
+            omega (arith, gap-lt (size .across + 1) (getD xa k 0) (getD xb k 0) (omega arith) (omega arith), gap-lt (size .down + 1) (getD ya k 0) (getD yb k 0) (omega arith) (omega arith));
         room = h;
       }
 

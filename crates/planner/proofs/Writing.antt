@@ -20,7 +20,7 @@ use Rattle.grid.proofs.Places.{axis-line, axis-count}
 use Rattle.job.specs.declared.Job.{Job}
 use Rattle.route.specs.Route.{drawnOf, OnGrid, numbered, indexed, cornersOf, Tables}
 use Rattle.network.specs.Pits.{pitsOf}
-use Rattle.route.proofs.Corners.{on-numbered, on-marks, pits-placed}
+use Rattle.route.proofs.Corners.{on-indexed, on-marks, pits-placed}
 use Rattle.plan.specs.declared.Head.{Head}
 use Rattle.plan.specs.Plan.{bookBytes, headOf, meetsOf, centreFigure}
 use Rattle.plan.specs.Writers.{entriesAt}
@@ -50,7 +50,7 @@ module _ (j : Job) (h : Held j) (laid : Layout) (L : LaidOut (runsOf (runsIn j))
 
   -- the routes are on the grid of indexes
   pub on-indexes : All (OnGrid numbered) (laid .routes)
-  on-indexes = all-imp (OnGrid g) (OnGrid numbered) (λ r o. on-numbered g r (lines-few .0) (lines-few .1) o) (laid .routes) (L .on-grid)
+  on-indexes = all-imp (OnGrid g) (OnGrid numbered) (λ r o. on-indexed 64 64 g r (lines-few .0) (lines-few .1) o) (laid .routes) (L .on-grid)
 
   own-is : ownOf runs laid ≡ map (λ r. corners (drawnOf g r)) (laid .routes)
   own-is = map-map corners (drawnOf g) (laid .routes)

@@ -1,5 +1,5 @@
 -- What a call says and leaves (document 01): "An accepted call gives the plan's length; the plan fills that many first bytes, later bytes are untouched; ..
--- A refused call gives a number and a place and changes no byte or word." (What is left of the work words: `Forecast`.)
+-- A refused call gives a number and a place and changes no byte or word." (What is left of the work words: `WordsLeft` of `Demands`.)
 use mathlib.Core.Path.{_≡_}
 use mathlib.Core.List.{List, _++_, map}
 use Prim.Native.Nat.{ℕ}

@@ -52,7 +52,7 @@ pub record Surveyed (j : Job) (size : Size) (columns rows xfirst xsecond yfirst 
   pub on-columns : Placing (j .x1) (j .x2) (j .count) (size .across) columns xfirst xsecond
   pub on-rows : Placing (j .y1) (j .y2) (j .count) (size .down) rows yfirst ysecond
 
--- the places of n runs' points on an axis are not above the number of its lines
+-- no place of n runs' points on an axis is above 64, the most lines that it has
 abbrev pub Within : (first second : List ℕ) → ℕ → Type 0
 Within first second n = (k : ℕ) → k < n → (getD first k 0 ≤ 64) × (getD second k 0 ≤ 64)
 

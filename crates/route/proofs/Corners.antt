@@ -40,7 +40,7 @@ module _ (g : Grid) (r : Route) (o : OnGrid g r) (m : Point → Point)
 
 -- the corners in line indexes
 turns-corners : (r : Route) → OnGrid numbered r → turns (vertexAt r) 0 0 2 (stepsOf r) ≡ cornersOf r
-unfolding cornersOf numbered
+unfolding cornersOf indexed
 turns-corners r o =
     sym (map-id (turns (vertexAt r) 0 0 2 (stepsOf r)))
     ∙ mapped-turns numbered r o (λ p. p)
@@ -116,11 +116,6 @@ on-marks width height n g h k s =
     let some : 0 < width = omega (arith, fits-few (g .columns) (columnsOf r) (o .columns-fit)) in
     on-indexed width (n / width) g r h (le-trans k (le-div-iff-mul-le some .1 s)) o)
 
--- of 64 too
-pub on-numbered : (g : Grid) (r : Route) → length (g .columns) ≤ 64 → length (g .rows) ≤ 64 → OnGrid g r → OnGrid numbered r
-unfolding numbered indexed
-on-numbered g r h k o = on-indexed 64 64 g r h k o
-
 -- ---- a grid of at most 64 columns and 64 rows, whose lines stand in tables
 
 module _ (g : Grid) (few-columns : length (g .columns) ≤ 64) (few-rows : length (g .rows) ≤ 64) (columns rows : List ℕ) (t : Tables g columns rows) where
@@ -131,7 +126,7 @@ module _ (g : Grid) (few-columns : length (g .columns) ≤ 64) (few-rows : lengt
   -- A route's corners in line indexes, looked up, are the corners of the route on the grid.
   pub corners-placed : (r : Route) → OnGrid g r → map (placed columns rows) (cornersOf r) ≡ corners (drawnOf g r)
   corners-placed r o =
-      rw (← turns-corners r (on-numbered g r few-columns few-rows o))
+      rw (← turns-corners r (on-indexed 64 64 g r few-columns few-rows o))
       (mapped-turns g r o (placed columns rows)
       (λ i j a b. point-path (t .column-at (at (columnsOf r) i) (at-fits (g .columns) (columnsOf r) (o .columns-fit) i a))
       (t .row-at (at (rowsOf r) j) (at-fits (g .rows) (rowsOf r) (o .rows-fit) j b))))
@@ -139,7 +134,7 @@ module _ (g : Grid) (few-columns : length (g .columns) ≤ 64) (few-rows : lengt
   -- corners are such
   corners-inside : (r : Route) → OnGrid g r → All Inside (cornersOf r)
   corners-inside r o =
-      corners-all Inside r (on-numbered g r few-columns few-rows o)
+      corners-all Inside r (on-indexed 64 64 g r few-columns few-rows o)
       (λ i j a b. (at-fits (g .columns) (columnsOf r) (o .columns-fit) i a, at-fits (g .rows) (rowsOf r) (o .rows-fit) j b))
 
   -- Routes have as many pits in line indexes as on the grid, since the lines rise.

@@ -58,7 +58,7 @@ pub record On (r : Route) (w : Walker) : Type 0 where
 
 -- a route on at most 64 columns and 64 rows has at most 126 steps
 pub few-steps : (r : Route) → OnGrid numbered r → length (stepsOf r) ≤ 126
-unfolding numbered
+unfolding indexed
 few-steps r g =
     omega (
       arith,
@@ -83,12 +83,10 @@ module _ (r : Route) (w : Walker) (o : On r w) where
 
   -- in one of 64 columns
   pub column-in : w .here .column < 64
-  unfolding numbered indexed
   column-in = column-below 64 64 (o .grid)
 
   -- and of 64 rows
   pub row-in : w .here .row < 64
-  unfolding numbered indexed
   row-in = row-below 64 64 (o .grid)
 
   -- its route has few steps
@@ -98,7 +96,7 @@ module _ (r : Route) (w : Walker) (o : On r w) where
   module _ (h : w .at < r .count) where
     -- its next step leads to a line of the grid
     pub can-step : Free (r .right) (r .up) (nextOf r w) (w .here)
-    unfolding numbered
+    unfolding indexed
     can-step = go (nextOf r w) (taken-next r (o .grid .held) (w .at) h)
       where
         before : (d : Dir) → take (suc (w .at)) (stepsOf r) ≡ take (w .at) (stepsOf r) ++ d ∷ [] → taken d r w < steps d (stepsOf r)

@@ -60,13 +60,13 @@ pub record OnGrid (g : Grid) (r : Route) : Type 0 where
 
 -- ---- the grid of indexes
 
--- 64 columns and 64 rows ("at most 64 of each", 01), each at its own index: its points are vertices named by the indexes of their lines
-unfoldable pub numbered : Grid
-numbered = record { columns = below 64; rows = below 64; columns-rise = below-rises 64; rows-rise = below-rises 64 }
-
--- the same of any number of columns and rows
+-- so many columns and rows, each at its own index: its points are vertices named by the indexes of their lines
 unfoldable pub indexed : (width height : ℕ) → Grid
 indexed width height = record { columns = below width; rows = below height; columns-rise = below-rises width; rows-rise = below-rises height }
+
+-- 64 of each: "at most 64 of each" (01)
+abbrev pub numbered : Grid
+numbered = indexed 64 64
 
 -- a route's corners, in line indexes
 unfoldable pub cornersOf : Route → Points

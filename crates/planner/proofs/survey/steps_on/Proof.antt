@@ -5,7 +5,8 @@ use native.Mathlib.Omega.{arith}
 use borrow.Author.Needs.{needs}
 use lib.ListN.{getD}
 use Rattle.planner.specs.Stages.{stepsOn}
-use Rattle.planner.proofs.Counted.{steps-none, steps-more, gap-most}
+use Rattle.table.proofs.Lines.{gap-lt}
+use Rattle.planner.proofs.Counted.{steps-none, steps-more}
 use Rattle.planner.proofs.survey.steps_on.Statement.{statement}
 use Rattle.planner.proofs.survey.steps_on.Tie as tie
 
@@ -44,7 +45,7 @@ add-sum c =
     let l = c .before .before .before .before .loop in
     let s = c .before .before .before .before .before in
     let w = s .pre .1 (l .k) (omega arith) in
-    omega (arith, s .pre .0, l .inv, c .gap .ensures, gap-most (getD (s .args .first .now) (l .k) 0) (getD (s .args .second .now) (l .k) 0) 64 (w .0) (w .1))
+    omega (arith, s .pre .0, l .inv, c .gap .ensures, gap-lt 65 (getD (s .args .first .now) (l .k) 0) (getD (s .args .second .now) (l .k) 0) (omega (arith, w .0)) (omega (arith, w .1)))
 
 add-k : tie.Need-add-k Inv-loop μ-loop
 add-k c = omega (arith, c .before .before .before .before .before .pre .0)
@@ -59,7 +60,7 @@ loop-again c =
     let w = s .pre .1 (l .k) (omega arith) in (
       omega arith,
       omega (arith, l .inv, c .gap .ensures, steps-more (s .args .first .now) (s .args .second .now) (l .k)),
-      omega (arith, l .inv, c .gap .ensures, gap-most (getD (s .args .first .now) (l .k) 0) (getD (s .args .second .now) (l .k) 0) 64 (w .0) (w .1)),
+      omega (arith, l .inv, c .gap .ensures, gap-lt 65 (getD (s .args .first .now) (l .k) 0) (getD (s .args .second .now) (l .k) 0) (omega (arith, w .0)) (omega (arith, w .1))),
     )
 
 returns : tie.Need-returns Inv-loop μ-loop
