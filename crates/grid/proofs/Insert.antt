@@ -21,13 +21,14 @@ use Prim.Native.Nat.{ℕ, zero, suc, _≤_, _<_}
 use native.Mathlib.Nat.{le-refl}
 use native.Mathlib.Omega.{arith}
 use lib.Dec.{ltb}
-use lib.ListN.{length, getD, take, drop}
+use lib.ListN.{length, getD}
 use borrow.Author.Tests.{lt-ltb, le-ltb}
 use Rattle.network.specs.DistinctRises.{distinct-rises}
 use Rattle.network.specs.Distinct.{insert, distinct}
 use Rattle.network.specs.Route.{Listed}
 use Rattle.network.proofs.Lists.{member-index, index-member}
 use Rattle.network.proofs.Hanan.{distinct-listed, listed-distinct, only-rising}
+use Rattle.grid.specs.Lines.{put}
 
 -- ---- one value
 
@@ -63,10 +64,6 @@ insert-above v a l h = insert-step v a l ∙ ap₂ (placed v a l) (le-ltb v a (o
 insert-none : (v : ℕ) → insert v [] ≡ v ∷ []
 unfolding insert
 insert-none v = refl
-
--- the list with v at place k, and the others from there on behind it
-abbrev pub put : ℕ → ℕ → List ℕ → List ℕ
-put k v l = take k l ++ v ∷ drop k l
 
 -- where the first k numbers are below v, and the next one is v, the list stays as it is
 pub insert-there : (k v : ℕ) (l : List ℕ) → ((i : ℕ) → i < k → getD l i 0 < v) → k < length l → getD l k 0 ≡ v → insert v l ≡ l

@@ -2,6 +2,6 @@
 pub mod Tables
 pub mod Insert
 pub mod Places
-pub mod Shift
+pub mod Shifting
 pub mod Values
 pub mod Hanan

@@ -1,10 +1,10 @@
 -- The lines of one axis: "The columns are the distinct x values of all the job's points, the rows the distinct y values: at most 64 of each"
 -- (01, Lines, boxes, meeting).
 use mathlib.Core.Path.{_≡_}
-use mathlib.Core.List.{List, [], _∷_}
+use mathlib.Core.List.{List, [], _∷_, _++_}
 use Prim.Native.Nat.{ℕ, suc, _-_, _<_}
 use lib.Dec.{ltb}
-use lib.ListN.{length, getD, take}
+use lib.ListN.{length, getD, take, drop}
 use Rattle.network.specs.Lists.{each, count}
 use Rattle.network.specs.Graph.{below}
 use Rattle.network.specs.Grid.{Rising}
@@ -35,6 +35,10 @@ RisingTo l n = (i : ℕ) → suc i < n → getD l i 0 < getD l (suc i) 0
 -- how many of the first n lines are below v: where v is one of them, and they rise, its index
 unfoldable pub indexOf : List ℕ → ℕ → ℕ → ℕ
 indexOf l n v = count (λ i. ltb (getD l i 0) v) (below n)
+
+-- the list with v at place k, and the others from there on behind it
+abbrev pub put : ℕ → ℕ → List ℕ → List ℕ
+put k v l = take k l ++ v ∷ drop k l
 
 -- the length of the edges between line i and the next
 abbrev pub lengthAt : List ℕ → ℕ → ℕ

@@ -4,12 +4,18 @@ ghost use Prim.Native.Nat.{pred, _≤_, min, max};
 ghost use lib.ListN.{replicate};
 ghost use Rattle.network.specs.Distinct.{insert, distinct};
 ghost use Rattle.grid.specs.Tables.{table, padded};
-ghost use Rattle.grid.specs.Lines.{values, axisOf, linesOf, Room, RisingTo, indexOf, lengthAt};
+ghost use Rattle.grid.specs.Lines.{values, axisOf, linesOf, Room, RisingTo, indexOf, put, lengthAt};
 
 // The columns of a job, or its rows: the first count words of lines, rising; the other words are 0.
 pub struct Axis {
     pub lines: [u32; 64],
     pub count: usize,
+}
+
+// How many of some lines are below each of two values.
+pub struct Indices {
+    pub first: u32,
+    pub second: u32,
 }
 
 pub fn least(a: u32, b: u32) -> u32
@@ -35,13 +41,41 @@ fn add_line(lines: &mut [u32; 64], count: usize, v: u32) -> usize
             return count;
         }
     }
+    if count < 16 {
+        slip(lines, at, count, v);
+    } else {
+        shift(lines, at, count, v);
+    }
+    count + 1
+}
+
+// Puts v at place `at` of the first count lines, and each line from there on one place further, the first of them first.
+fn slip(lines: &mut [u32; 64], at: usize, count: usize, v: u32)
+    requires { ⌜ Room (record { lines = now lines; count = count }) × (at ≤ count) ⌝ }
+    ensures { λ _. ⌜ now (lines .exit) ≡ padded 64 (put at v (linesOf (record { lines = now (lines .entry); count = count }))) ⌝ }
+{
+    let mut held = v;
+    let mut i = at;
+    while i < count {
+        let next = lines[i];
+        lines[i] = held;
+        held = next;
+        i += 1;
+    }
+    lines[count] = held;
+}
+
+// The same, the last line first: one move of memory, which is quicker where there are many lines, and slower where there are few.
+fn shift(lines: &mut [u32; 64], at: usize, count: usize, v: u32)
+    requires { ⌜ Room (record { lines = now lines; count = count }) × (at ≤ count) ⌝ }
+    ensures { λ _. ⌜ now (lines .exit) ≡ padded 64 (put at v (linesOf (record { lines = now (lines .entry); count = count }))) ⌝ }
+{
     let mut i = count;
     while at < i {
         lines[i] = lines[i - 1];
         i -= 1;
     }
     lines[at] = v;
-    count + 1
 }
 
 // Puts the lines of the first n runs on one axis, of which the arrays hold the first and the second points' values, among zeros, and says how many
@@ -87,24 +121,40 @@ pub fn position(lines: &[u32; 64], count: usize, v: u32) -> u32
     k
 }
 
-// Puts the lengths of the edges from each of the first count lines to the next among zeros.
-pub fn measure_edges(lines: &[u32; 64], count: usize, t: &mut [u32; 64])
-    requires { ⌜ (count ≤ 64) × RisingTo (now lines) count × (now t ≡ replicate 64 0) ⌝ }
-    ensures { λ _. ⌜ now (t .exit) ≡ padded 64 (table (lengthAt (now (lines .entry))) (pred count)) ⌝ }
+// The positions of two values in one pass.
+pub fn positions(lines: &[u32; 64], count: usize, v: u32, w: u32) -> Indices
+    requires { ⌜ count ≤ 64 ⌝ }
+    ensures { λ r. ⌜ r ≡ record { first = indexOf (now (lines .entry)) count v; second = indexOf (now (lines .entry)) count w } ⌝ }
 {
+    let mut k: u32 = 0;
+    let mut m: u32 = 0;
     let mut i: usize = 0;
-    while i + 1 < count {
-        t[i] = lines[i + 1] - lines[i];
+    while i < count {
+        let line = lines[i];
+        if line < v {
+            k += 1;
+        }
+        if line < w {
+            m += 1;
+        }
         i += 1;
+    }
+    Indices {
+        first: k,
+        second: m,
     }
 }
 
-// The same lengths by value.
+// The lengths of the edges from each of the first count lines to the next.
 pub fn edge_lengths(lines: &[u32; 64], count: usize) -> [u32; 64]
     requires { ⌜ (count ≤ 64) × RisingTo (now lines) count ⌝ }
     ensures { λ r. ⌜ r ≡ padded 64 (table (lengthAt (now (lines .entry))) (pred count)) ⌝ }
 {
     let mut t = [0u32; 64];
-    measure_edges(lines, count, &mut t);
+    let mut i: usize = 0;
+    while i + 1 < count {
+        t[i] = lines[i + 1] - lines[i];
+        i += 1;
+    }
     t
 }

@@ -132,7 +132,8 @@ fn compare_all(
     }
 }
 
-// Puts the set of the runs that each of the first n runs meets among zeros. Each pair is compared once: 496 comparisons for 32 runs.
+// Puts the set of the runs that each of the first n runs meets among zeros, and the sides of their boxes among four times as many. Each pair is compared once:
+// 496 comparisons for 32 runs.
 pub fn find_neighbours(
     x1: &[u32; 32],
     y1: &[u32; 32],
@@ -140,19 +141,21 @@ pub fn find_neighbours(
     y2: &[u32; 32],
     n: usize,
     sets: &mut [u32; 32],
+    left: &mut [u32; 32],
+    right: &mut [u32; 32],
+    low: &mut [u32; 32],
+    high: &mut [u32; 32],
 )
-    requires { ⌜ (n ≤ 32) × (now sets ≡ replicate 32 0) ⌝ }
-    ensures { λ _. ⌜ now (sets .exit) ≡ neighbourSets (meetsIn (runsHeld (now (x1 .entry)) (now (y1 .entry)) (now (x2 .entry)) (now (y2 .entry)) n)) n ⌝ }
+    requires { ⌜ (n ≤ 32) × (now sets ≡ replicate 32 0) × (now left ≡ replicate 32 0) × (now right ≡ replicate 32 0) × (now low ≡ replicate 32 0) × (now high ≡ replicate 32 0) ⌝ }
+    ensures { λ _. ⌜ (now (sets .exit) ≡ neighbourSets (meetsIn (runsHeld (now (x1 .entry)) (now (y1 .entry)) (now (x2 .entry)) (now (y2 .entry)) n)) n)
+        × (now (left .exit) ≡ lowerSides (now (x1 .entry)) (now (x2 .entry)) n) × (now (right .exit) ≡ higherSides (now (x1 .entry)) (now (x2 .entry)) n)
+        × (now (low .exit) ≡ lowerSides (now (y1 .entry)) (now (y2 .entry)) n) × (now (high .exit) ≡ higherSides (now (y1 .entry)) (now (y2 .entry)) n) ⌝ }
 {
-    let mut left = [0u32; 32];
-    let mut right = [0u32; 32];
-    let mut low = [0u32; 32];
-    let mut high = [0u32; 32];
-    box_sides(x1, x2, n, &mut left, &mut right);
-    box_sides(y1, y2, n, &mut low, &mut high);
+    box_sides(x1, x2, n, left, right);
+    box_sides(y1, y2, n, low, high);
     let mut i: usize = 0;
     while i < n {
-        compare_all(&left, &right, &low, &high, i, sets);
+        compare_all(&*left, &*right, &*low, &*high, i, sets);
         i += 1;
     }
 }
@@ -169,7 +172,22 @@ pub fn neighbours(
     ensures { λ r. ⌜ r ≡ neighbourSets (meetsIn (runsHeld (now (x1 .entry)) (now (y1 .entry)) (now (x2 .entry)) (now (y2 .entry)) n)) n ⌝ }
 {
     let mut sets = [0u32; 32];
-    find_neighbours(x1, y1, x2, y2, n, &mut sets);
+    let mut left = [0u32; 32];
+    let mut right = [0u32; 32];
+    let mut low = [0u32; 32];
+    let mut high = [0u32; 32];
+    find_neighbours(
+        x1,
+        y1,
+        x2,
+        y2,
+        n,
+        &mut sets,
+        &mut left,
+        &mut right,
+        &mut low,
+        &mut high,
+    );
     sets
 }
 

@@ -9,11 +9,7 @@ use borrow.Rule.Slice.PartMut.{midOf, putMid, same-len-mid, mid-len, take-put, d
 use lib.ListN.{length, take, drop}
 use lib.Seq.{take-take, drop-drop, take-at, drop-at, length-take-le}
 use Rattle.table.specs.Side.{Side}
-use Rattle.laying.specs.Lease.{Roomy}
-
--- the bytes for the steps of run k
-abbrev pub blockOf : List ℕ → ℕ → ℕ → List ℕ
-blockOf bytes stride k = take stride (drop (k * stride) bytes)
+use Rattle.laying.specs.Lease.{Roomy, blockOf}
 
 -- a part of a list
 take-drop : (n b m : ℕ) (l : List ℕ) → m ≡ n + b → take n (drop b l) ≡ drop b (take m l)

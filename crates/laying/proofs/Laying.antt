@@ -15,7 +15,7 @@ use Rattle.network.specs.Graph.{runAt, meets}
 use Rattle.network.specs.Steps.{Dir, hor, ver, Frame, drawn}
 use Rattle.sharing.specs.View.{lines}
 use Rattle.sharing.specs.Star.{Centred}
-use Rattle.table.specs.Side.{Side, firstOf, secondOf, Placed}
+use Rattle.table.specs.Side.{Side, firstOf, secondOf, Placed, Rises}
 use Rattle.table.specs.OnSides.{OnSides, viewBy, boxBy}
 use Rattle.table.specs.Frame.{Group, Grouped}
 use Rattle.table.specs.Rule.{tableOf, Ruled, figureOf, Beyond}
@@ -23,7 +23,7 @@ use Rattle.table.specs.Rule as rule
 use Rattle.table.specs.Walk.{walked}
 use Rattle.table.proofs.Lines.{gap-lt}
 use Rattle.table.proofs.Star.{group-fit}
-use Rattle.table.proofs.Survey.{sides-centred, star-exact, star-figure, star-traced}
+use Rattle.table.proofs.Survey.{sides-centred, sides-rise, star-exact, star-figure, star-traced}
 use Rattle.route.specs.declared.Track.{Track}
 use Rattle.route.specs.Route.{Route, columnsOf, rowsOf, drawnOf, OnGrid}
 use Rattle.route.specs.Stored.{tracksOf, routesIn}
@@ -39,8 +39,7 @@ use Rattle.groups.proofs.Stars.{Stars, stars, stars-same}
 use Rattle.groups.proofs.Runs.{meets-graph}
 use Rattle.lease.proofs.Excess.{leaves-apart}
 use Rattle.lease.proofs.Theorem.{lease-best}
-use Rattle.laying.specs.Lease.{tableWords, LeaseSurveyed, GroupLayable, GroupLaid, Served, Layout, drawnBy, LaidOut}
-use Rattle.laying.proofs.Blocks.{blockOf}
+use Rattle.laying.specs.Lease.{tableWords, LeaseSurveyed, blockOf, GroupLayable, GroupLaid, Served, Layout, drawnBy, LaidOut}
 use Rattle.laying.proofs.Loop.{Progress}
 
 module _ (runs : List Run) (xs ys : Side) (n : ℕ) (centres sets : List ℕ) (L : LeaseSurveyed runs xs ys n centres sets) where
@@ -82,7 +81,10 @@ module _ (runs : List Run) (xs ys : Side) (n : ℕ) (centres sets : List ℕ) (L
 
     -- what the group asks for
     pub group-asks : (n ≤ 32) × Placed (xs .first) (xs .second) n × Placed (ys .first) (ys .second) n × (c < n)
-    group-asks = (L .few, placed-x, placed-y, h)
+        × Rises (xs .lines) (firstOf xs c) (secondOf xs c) × Rises (ys .lines) (firstOf ys c) (secondOf ys c)
+    group-asks =
+        let rise = sides-rise (hanan runs) runs xs ys c (getD sets c 0) (L .surveyed c h) c (in-list c h) in
+        (L .few, placed-x, placed-y, h, rise hor, rise ver)
 
     module _ (g : Group) (G : Grouped xs ys n c (getD sets c 0) g) where
       -- the table takes four words for each vertex of the centre's box

@@ -22,7 +22,7 @@ use Rattle.layout.specs.Points.{pointsOf}
 use Rattle.layout.specs.Laid.{Laid}
 use Rattle.groups.specs.Groups.{heads}
 use Rattle.groups.proofs.Parts.{head-of, heads-next}
-use Rattle.laying.specs.Lease.{GroupLaid, Served}
+use Rattle.laying.specs.Lease.{GroupWritten, Served}
 
 -- what stands behind stays, step by step
 pub beyond-on : (a b c : List ℕ) (n : ℕ) → Beyond a b n → Beyond b c n → Beyond a c n
@@ -34,16 +34,12 @@ beyond-self a n = record { size = refl; same = λ k h. refl }
 -- ---- the runs of a group
 
 module _ (xs ys : Side) (centres : List ℕ) (c : ℕ) (moves : List Move) where
-  -- those of the first n runs that have the centre c are laid; the other runs have their old steps
-  pub record Among (n : ℕ) (old new : ℕ → List ℕ) : Type 0 where
-    pub laid : GroupLaid xs ys n centres c moves new
-    pub others : (k : ℕ) → (k < n → getD centres k 0 ≡ c → ⊥) → new k ≡ old k
-
-  pub laid-none : (steps : ℕ → List ℕ) → Among 0 steps steps
+  -- before the first run none is laid
+  pub laid-none : (steps : ℕ → List ℕ) → GroupWritten xs ys 0 centres c moves steps steps
   laid-none steps = record { laid = λ k h. absurd (omega arith); others = λ k d. refl }
 
   -- run k has another centre
-  pub laid-skip : {k : ℕ} {old new : ℕ → List ℕ} → ¬ (getD centres k 0 ≡ c) → Among k old new → Among (k + 1) old new
+  pub laid-skip : {k : ℕ} {old new : ℕ → List ℕ} → ¬ (getD centres k 0 ≡ c) → GroupWritten xs ys k centres c moves old new → GroupWritten xs ys (k + 1) centres c moves old new
   laid-skip {k} {old} {new} d G =
       record {
         laid = below-more (λ j. getD centres j 0 ≡ c → Laid (pointsOf xs ys c) (pointsOf xs ys j) c moves j (new j)) k (G .laid) (λ e. absurd (d e));
@@ -52,7 +48,7 @@ module _ (xs ys : Side) (centres : List ℕ) (c : ℕ) (moves : List Move) where
 
   -- run k has this one, and is laid
   pub laid-next : {k : ℕ} {old new then : ℕ → List ℕ} → getD centres k 0 ≡ c → Laid (pointsOf xs ys c) (pointsOf xs ys k) c moves k (then k)
-      → ((j : ℕ) → ¬ (j ≡ k) → then j ≡ new j) → Among k old new → Among (k + 1) old then
+      → ((j : ℕ) → ¬ (j ≡ k) → then j ≡ new j) → GroupWritten xs ys k centres c moves old new → GroupWritten xs ys (k + 1) centres c moves old then
   laid-next {k} {old} {new} {then} own L same G =
       record {
         laid = below-more (λ j. getD centres j 0 ≡ c → Laid (pointsOf xs ys c) (pointsOf xs ys j) c moves j (then j)) k

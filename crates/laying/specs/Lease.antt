@@ -4,7 +4,7 @@ use mathlib.Core.Path.{_≡_}
 use mathlib.Core.Bool.{true}
 use mathlib.Core.List.{List, map}
 use Prim.Native.Nat.{ℕ, _+_, _*_, _≤_, _<_}
-use lib.ListN.{length, getD}
+use lib.ListN.{length, getD, take, drop}
 use Rattle.network.specs.Lists.{All}
 use Rattle.network.specs.Plane.{Run, gap}
 use Rattle.network.specs.Hanan.{hanan}
@@ -17,6 +17,7 @@ use Rattle.sharing.specs.Trace.{Move}
 use Rattle.sharing.specs.Walk.{Traced}
 use Rattle.sharing.specs.View.{lines}
 use Rattle.sharing.specs.Star.{starOf, Best}
+use Rattle.grid.specs.Lines.{lengthAt}
 use Rattle.table.specs.Side.{Side, firstOf, secondOf}
 use Rattle.table.specs.OnSides.{sideAt, OnSides, viewBy, boxBy}
 use Rattle.route.specs.Route.{Route as Steps, drawnOf, OnGrid}
@@ -34,7 +35,7 @@ pub record LeaseSurveyed (runs : List Run) (xs ys : Side) (n : ℕ) (centres nei
   pub few : n ≤ 32
   pub surveyed : (c : ℕ) → c < n → OnSides (hanan runs) runs xs ys c (getD neighbours c 0)
   pub few-lines : (d : Dir) → length (lines (hanan runs) d) ≤ 64
-  pub short : (d : Dir) (i : ℕ) → getD (sideAt xs ys d .len) i 0 ≤ 2000000
+  pub short : (d : Dir) (i : ℕ) → lengthAt (sideAt xs ys d .lines) i ≤ 2000000
   pub stars : allStars (meets (hanan runs) runs) (length runs) ≡ true
   pub centres-are : (i : ℕ) → i < n → getD centres i 0 ≡ centreOf (meets (hanan runs) runs) (length runs) i
 
@@ -42,6 +43,10 @@ pub record LeaseSurveyed (runs : List Run) (xs ys : Side) (n : ℕ) (centres nei
 pub record Roomy (xs ys : Side) (n stride : ℕ) (routes : List ℕ) : Type 0 where
   pub enough : (k : ℕ) → k < n → gap (firstOf xs k) (secondOf xs k) + gap (firstOf ys k) (secondOf ys k) ≤ stride
   pub room : n * stride ≤ length routes
+
+-- the bytes for the steps of run k
+abbrev pub blockOf : List ℕ → ℕ → ℕ → List ℕ
+blockOf bytes stride k = take stride (drop (k * stride) bytes)
 
 -- ---- one group
 
@@ -56,6 +61,11 @@ module _ (xs ys : Side) (n : ℕ) (centres : List ℕ) (c : ℕ) (moves : List M
   -- they are laid, each with its steps
   abbrev pub GroupLaid : (ℕ → List ℕ) → Type 0
   GroupLaid steps = (k : ℕ) → k < n → getD centres k 0 ≡ c → Laid (pointsOf xs ys c) (pointsOf xs ys k) c moves k (steps k)
+
+  -- they are laid, and all other runs have their old steps
+  pub record GroupWritten (old new : ℕ → List ℕ) : Type 0 where
+    pub laid : GroupLaid new
+    pub others : (k : ℕ) → (k < n → getD centres k 0 ≡ c → ⊥) → new k ≡ old k
 
 module _ (runs : List Run) (xs ys : Side) (centres : List ℕ) where
   -- the centre c among its leaves

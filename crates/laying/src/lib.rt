@@ -1,6 +1,6 @@
 // The routes of all runs of a lease: its groups are laid one after the other, in the same work words.
 ghost use mathlib.Core.Path.{_≡_};
-ghost use mathlib.Core.List.{List};
+ghost use mathlib.Core.List.{List, []};
 ghost use Prim.Native.Nat.{_≤_, _<_};
 ghost use lib.ListN.{length, getD};
 ghost use Rattle.network.specs.Plane.{Run};
@@ -8,7 +8,7 @@ ghost use Rattle.table.specs.Side.{sideOf};
 ghost use Rattle.table.specs.Rule.{Beyond};
 ghost use Rattle.table.specs.Walk.{traceOf, movesOf};
 ghost use Rattle.route.specs.Stored.{tracksOf, routesIn};
-ghost use Rattle.laying.specs.Lease.{tableWords, LeaseSurveyed, Serving, Roomy, LaidOut};
+ghost use Rattle.laying.specs.Lease.{tableWords, LeaseSurveyed, Roomy, blockOf, GroupLayable, GroupWritten, Serving, LaidOut};
 
 // How many moves a centre has, and what they share.
 pub struct Moves {
@@ -20,10 +20,10 @@ pub struct Moves {
 fn moves_of(
     xfirst: &[u32; 32],
     xsecond: &[u32; 32],
-    xlen: &[u32; 64],
+    xlines: &[u32; 64],
     yfirst: &[u32; 32],
     ysecond: &[u32; 32],
-    ylen: &[u32; 64],
+    ylines: &[u32; 64],
     n: usize,
     centres: &[usize; 32],
     neighbours: &[u32; 32],
@@ -34,12 +34,12 @@ fn moves_of(
     steps: &mut [u8; 128],
     shares: &mut [u8; 128],
 ) -> Moves
-    requires { ⌜ ((runs : List Run) × LeaseSurveyed runs (sideOf (now xfirst) (now xsecond) (now xlen)) (sideOf (now yfirst) (now ysecond) (now ylen))
+    requires { ⌜ ((runs : List Run) × LeaseSurveyed runs (sideOf (now xfirst) (now xsecond) (now xlines)) (sideOf (now yfirst) (now ysecond) (now ylines))
         n (now centres) (now neighbours) × (tableWords runs ≤ length (now work)))
         × (c < n) × (getD (now centres) c 0 ≡ c)
         × (length (now cols) ≡ 192) × (length (now rows) ≡ 192) × (length (now steps) ≡ 128) × (length (now shares) ≡ 128) ⌝ }
-    ensures { λ r. ⌜ (let xs = sideOf (now (xfirst .entry)) (now (xsecond .entry)) (now (xlen .entry)) in
-        let ys = sideOf (now (yfirst .entry)) (now (ysecond .entry)) (now (ylen .entry)) in
+    ensures { λ r. ⌜ (let xs = sideOf (now (xfirst .entry)) (now (xsecond .entry)) (now (xlines .entry)) in
+        let ys = sideOf (now (yfirst .entry)) (now (ysecond .entry)) (now (ylines .entry)) in
         (runs : List Run) → LeaseSurveyed runs xs ys n (now (centres .entry)) (now (neighbours .entry))
         → Serving runs xs ys (now (centres .entry)) n c (movesOf (traceOf (now (steps .exit)) (now (shares .exit)) (r .count))) (r .saved)
         × Beyond (now (work .entry)) (now (work .exit)) (tableWords runs))
@@ -48,10 +48,10 @@ fn moves_of(
     let g = table::frame::group_of(
         xfirst,
         xsecond,
-        xlen,
+        xlines,
         yfirst,
         ysecond,
-        ylen,
+        ylines,
         n,
         c,
         neighbours[c],
@@ -64,14 +64,76 @@ fn moves_of(
     Moves { saved, count }
 }
 
+// Writes the steps of the runs that have the centre c, by its moves, once it has found where the moves that are shared with each leaf stand: both in one
+// function, since an array of stretches that is handed on is copied. The axes' lines are not asked for, so the sides of the contract have none.
+fn lay_group(
+    xfirst: &[u32; 32],
+    xsecond: &[u32; 32],
+    yfirst: &[u32; 32],
+    ysecond: &[u32; 32],
+    n: usize,
+    centres: &[usize; 32],
+    c: usize,
+    steps: &[u8; 128],
+    shares: &[u8; 128],
+    count: usize,
+    routes: &mut [u8],
+    stride: usize,
+)
+    requires { ⌜ GroupLayable (sideOf (now xfirst) (now xsecond) []) (sideOf (now yfirst) (now ysecond) []) n (now centres) c (movesOf (traceOf (now steps) (now shares) count))
+        × Roomy (sideOf (now xfirst) (now xsecond) []) (sideOf (now yfirst) (now ysecond) []) n stride (now routes) × (length (now steps) ≡ 128) ⌝ }
+    ensures { λ r. ⌜ GroupWritten (sideOf (now (xfirst .entry)) (now (xsecond .entry)) []) (sideOf (now (yfirst .entry)) (now (ysecond .entry)) []) n (now (centres .entry)) c
+        (movesOf (traceOf (now (steps .entry)) (now (shares .entry)) count)) (blockOf (now (routes .entry)) stride) (blockOf (now (routes .exit)) stride)
+        × (length (now (routes .exit)) ≡ length (now (routes .entry))) ⌝ }
+{
+    let mut found = [layout::Stretch {
+        from: 0,
+        size: 0,
+        across: 0,
+        wide: 0,
+    }; 32];
+    let mut across: u8 = 0;
+    let mut i: usize = 0;
+    while i < count {
+        let step = steps[i];
+        let leaf = layout::wide(shares[i]);
+        if leaf < 32 {
+            let known = found[leaf];
+            found[leaf] = layout::with_move(known, (i % 256) as u8, across, step);
+        }
+        across += layout::along_row(step);
+        i += 1;
+    }
+    let centre = layout::both_points(xfirst[c], yfirst[c], xsecond[c], ysecond[c]);
+    let mut k: usize = 0;
+    while k < n {
+        if centres[k] == c {
+            let run = layout::both_points(xfirst[k], yfirst[k], xsecond[k], ysecond[k]);
+            let s = found[k];
+            let at = k * stride;
+            layout::route_of(
+                centre,
+                run,
+                c,
+                k,
+                steps,
+                count,
+                s,
+                &mut routes[at..at + stride],
+            );
+        }
+        k += 1;
+    }
+}
+
 // Writes the steps of n runs whose groups are stars with these centres, those of run k from k * stride on, and gives what the routes save together.
 pub fn lay(
     xfirst: &[u32; 32],
     xsecond: &[u32; 32],
-    xlen: &[u32; 64],
+    xlines: &[u32; 64],
     yfirst: &[u32; 32],
     ysecond: &[u32; 32],
-    ylen: &[u32; 64],
+    ylines: &[u32; 64],
     n: usize,
     centres: &[usize; 32],
     neighbours: &[u32; 32],
@@ -79,11 +141,11 @@ pub fn lay(
     routes: &mut [u8],
     stride: usize,
 ) -> u64
-    requires { ⌜ ((runs : List Run) × LeaseSurveyed runs (sideOf (now xfirst) (now xsecond) (now xlen)) (sideOf (now yfirst) (now ysecond) (now ylen))
+    requires { ⌜ ((runs : List Run) × LeaseSurveyed runs (sideOf (now xfirst) (now xsecond) (now xlines)) (sideOf (now yfirst) (now ysecond) (now ylines))
         n (now centres) (now neighbours) × (tableWords runs ≤ length (now work)))
-        × Roomy (sideOf (now xfirst) (now xsecond) (now xlen)) (sideOf (now yfirst) (now ysecond) (now ylen)) n stride (now routes) ⌝ }
-    ensures { λ r. ⌜ (let xs = sideOf (now (xfirst .entry)) (now (xsecond .entry)) (now (xlen .entry)) in
-        let ys = sideOf (now (yfirst .entry)) (now (ysecond .entry)) (now (ylen .entry)) in
+        × Roomy (sideOf (now xfirst) (now xsecond) (now xlines)) (sideOf (now yfirst) (now ysecond) (now ylines)) n stride (now routes) ⌝ }
+    ensures { λ r. ⌜ (let xs = sideOf (now (xfirst .entry)) (now (xsecond .entry)) (now (xlines .entry)) in
+        let ys = sideOf (now (yfirst .entry)) (now (ysecond .entry)) (now (ylines .entry)) in
         (runs : List Run) → LeaseSurveyed runs xs ys n (now (centres .entry)) (now (neighbours .entry))
         → LaidOut runs (record { saved = r; routes = routesIn (now (routes .exit)) stride (tracksOf (xs .first) (ys .first) (xs .second) (ys .second)) n })
         × Beyond (now (work .entry)) (now (work .exit)) (tableWords runs))
@@ -100,10 +162,10 @@ pub fn lay(
             let moves = moves_of(
                 xfirst,
                 xsecond,
-                xlen,
+                xlines,
                 yfirst,
                 ysecond,
-                ylen,
+                ylines,
                 n,
                 centres,
                 neighbours,
@@ -114,27 +176,20 @@ pub fn lay(
                 &mut steps,
                 &mut shares,
             );
-            let centre = layout::both_points(xfirst[i], yfirst[i], xsecond[i], ysecond[i]);
-            let found = layout::stretches(&steps, &shares, moves.count);
-            let mut k: usize = 0;
-            while k < n {
-                if centres[k] == i {
-                    let run = layout::both_points(xfirst[k], yfirst[k], xsecond[k], ysecond[k]);
-                    let s = found[k];
-                    let at = k * stride;
-                    layout::route_of(
-                        centre,
-                        run,
-                        i,
-                        k,
-                        &steps,
-                        moves.count,
-                        s,
-                        &mut routes[at..at + stride],
-                    );
-                }
-                k += 1;
-            }
+            lay_group(
+                xfirst,
+                xsecond,
+                yfirst,
+                ysecond,
+                n,
+                centres,
+                i,
+                &steps,
+                &shares,
+                moves.count,
+                routes,
+                stride,
+            );
             saved += moves.saved as u64;
         }
         i += 1;

@@ -15,7 +15,7 @@ ghost use Rattle.sharing.specs.Leaf.{turnIf};
 ghost use Rattle.route.specs.Route.{dirOf};
 ghost use Rattle.table.specs.Walk.{traceOf, movesOf};
 ghost use Rattle.layout.specs.Points.{OnLines, numberOf};
-ghost use Rattle.layout.specs.Stretch.{alongRow, nothing, grown, Found};
+ghost use Rattle.layout.specs.Stretch.{alongRow, grown};
 ghost use Rattle.layout.specs.Way.{wayOf, passesForth, legOf};
 ghost use Rattle.layout.specs.Laid.{Longer, routeTo, Ready, Stretched, Laid};
 
@@ -132,14 +132,14 @@ fn along(
 // ---- where the moves shared with each leaf stand
 
 // How many columns a step passes.
-fn along_row(step: u8) -> u8
+pub fn along_row(step: u8) -> u8
     ensures { λ r. ⌜ (r ≡ alongRow step) × (r ≤ 1) ⌝ }
 {
     if step == 0 { 1 } else { 0 }
 }
 
 // The stretch with the move i more, before which `across` moves go along the row.
-fn with_move(s: Stretch, i: u8, across: u8, step: u8) -> Stretch
+pub fn with_move(s: Stretch, i: u8, across: u8, step: u8) -> Stretch
     requires { ⌜ (s .size < 255) × (s .wide < 255) ⌝ }
     ensures { λ r. ⌜ r ≡ grown s i across step ⌝ }
 {
@@ -161,36 +161,11 @@ fn with_move(s: Stretch, i: u8, across: u8, step: u8) -> Stretch
     }
 }
 
-fn wide(x: u8) -> usize
+// The leaf that a move is shared with, as an index.
+pub fn wide(x: u8) -> usize
     ensures { λ r. ⌜ r ≡ x ⌝ }
 {
     x as usize
-}
-
-// For each leaf, where the moves that are shared with it stand.
-pub fn stretches(steps: &[u8; 128], shares: &[u8; 128], count: usize) -> [Stretch; 32]
-    requires { ⌜ count ≤ 128 ⌝ }
-    ensures { λ r. ⌜ ((k : ℕ) → k < 32 → Found k (movesOf (traceOf (now (steps .entry)) (now (shares .entry)) count)) (getD r k nothing)) ⌝ }
-{
-    let mut t = [Stretch {
-        from: 0,
-        size: 0,
-        across: 0,
-        wide: 0,
-    }; 32];
-    let mut across: u8 = 0;
-    let mut i: usize = 0;
-    while i < count {
-        let step = steps[i];
-        let k = wide(shares[i]);
-        if k < 32 {
-            let s = t[k];
-            t[k] = with_move(s, (i % 256) as u8, across, step);
-        }
-        across += along_row(step);
-        i += 1;
-    }
-    t
 }
 
 // ---- the ways of a run

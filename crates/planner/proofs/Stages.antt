@@ -2,7 +2,7 @@
 use mathlib.Core.Path.{_≡_, refl, sym, ap, _∙_, subst}
 use mathlib.Core.Bool.{true}
 use mathlib.Core.List.{List, _++_}
-use Prim.Native.Nat.{ℕ, pred, _+_, _*_, _≤_, _<_}
+use Prim.Native.Nat.{ℕ, _+_, _*_, _≤_, _<_}
 use native.Mathlib.Nat.{mul-le-mul}
 use native.Mathlib.Omega.{arith}
 use lib.ListN.{length, getD, drop, replicate, length-drop, length-replicate, getD-replicate}
@@ -27,10 +27,9 @@ use Rattle.table.proofs.Lines.{gap-lt}
 use Rattle.table.proofs.Survey.{on-sides, short}
 use Rattle.grid.specs.declared.Axis.{Axis}
 use Rattle.grid.specs.Tables.{table, padded}
-use Rattle.grid.specs.Lines.{values, RisingTo, lengthAt}
-use Rattle.grid.proofs.Places.{index-le, axis-rises}
-use Rattle.network.specs.Distinct.{distinct}
-use Rattle.network.specs.DistinctRises.{distinct-rises}
+use Rattle.grid.proofs.Tables.{length-padded}
+use Rattle.grid.proofs.Places.{index-le}
+use Rattle.network.specs.Entries.{length-table}
 use Rattle.route.specs.Marked.{Clear}
 use Rattle.route.specs.Stored.{tracksOf, routesIn}
 use Rattle.fields.specs.Bytes.{over, Wrote}
@@ -50,6 +49,10 @@ use Rattle.planner.proofs.Room.{words-few, words-most}
 use Rattle.planner.proofs.Counted.{words-counted, bytes-counted}
 use Rattle.planner.proofs.Verdicts.{few-words, few-bytes, weighs, read-weighed, unread, same-weighed}
 
+-- an array of 32 that holds a table is full
+pub table-full : (f : ℕ → ℕ) (n : ℕ) → n ≤ 32 → (t : List ℕ) → t ≡ padded 32 (table f n) → length t ≡ 32
+table-full f n h t e = ap length e ∙ length-padded 32 (table f n) (omega (arith, length-table f n))
+
 -- ---- one axis
 
 module _ (first second : List ℕ) (n count : ℕ) (lines firsts seconds : List ℕ) (P : Placing first second n count lines firsts seconds) where
@@ -63,13 +66,9 @@ module _ (first second : List ℕ) (n count : ℕ) (lines firsts seconds : List 
   pub placed-within : Within firsts seconds n
   placed-within k h = let (a, b) = placed-most k h in omega (arith, P .few)
 
-  -- the side of the axis, with the lengths of its edges
-  pub placed-side : (lens : List ℕ) → lens ≡ padded 64 (table (lengthAt lines) (pred count)) → Sided (record { lines = lines; count = count }) first second n (sideOf firsts seconds lens)
-  placed-side lens e = record { firsts = P .firsts-are; seconds = P .seconds-are; lengths = e }
-
-  -- the lines rise
-  pub placed-rises : RisingTo lines count
-  placed-rises = axis-rises (record { lines = lines; count = count }) (distinct (values first second n)) (P .axis-is) (distinct-rises (values first second n))
+  -- the side of the axis, with its lines
+  pub placed-side : Sided (record { lines = lines; count = count }) first second n (sideOf firsts seconds lines)
+  placed-side = record { firsts = P .firsts-are; seconds = P .seconds-are; same-lines = refl }
 
 -- ---- both axes
 
@@ -98,9 +97,9 @@ module _ (j : Job) (size : Size) (columns rows xa xb ya yb : List ℕ) (S : Surv
   axes-lined = axes-held j x y (S .on-columns .axis-is) (S .on-rows .axis-is)
 
   -- there is room for the steps of each run
-  pub roomy : (xlen ylen routes : List ℕ) → j .count * (size .across + size .down) ≤ length routes
-      → Roomy (sideOf xa xb xlen) (sideOf ya yb ylen) (j .count) (size .across + size .down) routes
-  roomy xlen ylen routes h =
+  pub roomy : (routes : List ℕ) → j .count * (size .across + size .down) ≤ length routes
+      → Roomy (sideOf xa xb columns) (sideOf ya yb rows) (j .count) (size .across + size .down) routes
+  roomy routes h =
       record {
         enough = λ k l.
             let (a, b) = placed-most (j .x1) (j .x2) (j .count) (size .across) columns xa xb (S .on-columns) k l in
@@ -109,28 +108,27 @@ module _ (j : Job) (size : Size) (columns rows xa xb ya yb : List ℕ) (S : Surv
         room = h;
       }
 
-  module _ (sets centres : List ℕ) (L : Leased j sets centres) (xlen ylen : List ℕ) (ex : xlen ≡ padded 64 (table (lengthAt columns) (pred (size .across))))
-      (ey : ylen ≡ padded 64 (table (lengthAt rows) (pred (size .down)))) where
+  module _ (sets centres : List ℕ) (L : Leased j sets centres) where
     few : j .count ≤ 32
     few = held-few j (L .held)
 
     abbrev xs : Side
-    xs = sideOf xa xb xlen
+    xs = sideOf xa xb columns
 
     abbrev ys : Side
-    ys = sideOf ya yb ylen
+    ys = sideOf ya yb rows
 
-    sided-x : Sided x (j .x1) (j .x2) (j .count) (sideOf xa xb xlen)
-    sided-x = placed-side (j .x1) (j .x2) (j .count) (size .across) columns xa xb (S .on-columns) xlen ex
+    sided-x : Sided x (j .x1) (j .x2) (j .count) (sideOf xa xb columns)
+    sided-x = placed-side (j .x1) (j .x2) (j .count) (size .across) columns xa xb (S .on-columns)
 
-    sided-y : Sided y (j .y1) (j .y2) (j .count) (sideOf ya yb ylen)
-    sided-y = placed-side (j .y1) (j .y2) (j .count) (size .down) rows ya yb (S .on-rows) ylen ey
+    sided-y : Sided y (j .y1) (j .y2) (j .count) (sideOf ya yb rows)
+    sided-y = placed-side (j .y1) (j .y2) (j .count) (size .down) rows ya yb (S .on-rows)
 
     -- the leaves of a run are the runs that it meets
     leaf-is : (c : ℕ) → c < j .count → (k : ℕ) → k < j .count → has (getD sets c 0) k ≡ meets (hanan (runsOf (runsIn j))) (runsOf (runsIn j)) c k
     leaf-is c l k h = ap (λ s. has (getD s c 0) k) (L .sets) ∙ set-joined (meetsIn (runsOf (runsIn j))) (j .count) few c k l h
 
-    pub lease-surveyed : LeaseSurveyed (runsOf (runsIn j)) (sideOf xa xb xlen) (sideOf ya yb ylen) (j .count) centres sets
+    pub lease-surveyed : LeaseSurveyed (runsOf (runsIn j)) (sideOf xa xb columns) (sideOf ya yb rows) (j .count) centres sets
     lease-surveyed =
         let e = plane-held j in
         let r = held-range j (L .held) in

@@ -10,6 +10,7 @@ ghost use mathlib.Core.Path.{_≡_};
 ghost use Prim.Native.Nat.{ℕ, _≤_};
 ghost use lib.ListN.{length};
 ghost use Rattle.grid.specs.Runs.{runsHeld};
+ghost use Rattle.intersection.specs.Centres.{meetsIn, neighbourSets};
 ghost use Rattle.job.specs.Parse.{accepted};
 ghost use Rattle.job.specs.Reading.{placeSaid};
 ghost use Rattle.table.specs.Rule.{Beyond};
@@ -70,18 +71,14 @@ fn plan_routes(
     ensures { λ r. ⌜ Plans number (runsIn (jobIn number n (now (numbers .entry)) (now (x1 .entry)) (now (y1 .entry)) (now (x2 .entry)) (now (y2 .entry)))) (now (out .entry)) (said (Answer.Planned r)) (now (out .exit))
         × Beyond (now (work .entry)) (now (work .exit)) (wordsFor (runsOf (runsIn (jobIn number n (now (numbers .entry)) (now (x1 .entry)) (now (y1 .entry)) (now (x2 .entry)) (now (y2 .entry)))))) ⌝ }
 {
-    let mut xlen = [0u32; 64];
-    let mut ylen = [0u32; 64];
-    grid::measure_edges(columns, size.across, &mut xlen);
-    grid::measure_edges(rows, size.down, &mut ylen);
     let stride = size.across + size.down;
     let saved = laying::lay(
         xfirst,
         xsecond,
-        &xlen,
+        columns,
         yfirst,
         ysecond,
-        &ylen,
+        rows,
         n,
         centres,
         neighbours,
@@ -304,19 +301,19 @@ fn plan_groups(
     xsecond: &[u32; 32],
     yfirst: &[u32; 32],
     ysecond: &[u32; 32],
+    neighbours: &[u32; 32],
     words: usize,
     work: &mut [u32],
     out: &mut [u8],
 ) -> Answer
     requires { ⌜ Held (jobIn number n (now numbers) (now x1) (now y1) (now x2) (now y2)) × Surveyed (jobIn number n (now numbers) (now x1) (now y1) (now x2) (now y2)) size (now columns) (now rows) (now xfirst) (now xsecond) (now yfirst) (now ysecond)
-        × Lent (jobIn number n (now numbers) (now x1) (now y1) (now x2) (now y2)) (now work) (now out) × (words ≡ wordsFor (runsOf (runsIn (jobIn number n (now numbers) (now x1) (now y1) (now x2) (now y2))))) ⌝ }
+        × Lent (jobIn number n (now numbers) (now x1) (now y1) (now x2) (now y2)) (now work) (now out) × (words ≡ wordsFor (runsOf (runsIn (jobIn number n (now numbers) (now x1) (now y1) (now x2) (now y2)))))
+        × (now neighbours ≡ neighbourSets (meetsIn (runsOf (runsIn (jobIn number n (now numbers) (now x1) (now y1) (now x2) (now y2))))) n) ⌝ }
     ensures { λ r. ⌜ Outcome (judged (accepted number (runsIn (jobIn number n (now (numbers .entry)) (now (x1 .entry)) (now (y1 .entry)) (now (x2 .entry)) (now (y2 .entry)))))) (now (out .entry)) (said r) (now (out .exit))
         × Words (foretoldBy (accepted number (runsIn (jobIn number n (now (numbers .entry)) (now (x1 .entry)) (now (y1 .entry)) (now (x2 .entry)) (now (y2 .entry)))))) (said r) (now (work .entry)) (now (work .exit)) ⌝ }
 {
-    let mut neighbours = [0u32; 32];
     let mut centres = [0usize; 32];
-    intersection::find_neighbours(x1, y1, x2, y2, n, &mut neighbours);
-    if !intersection::finder::find_centres(&neighbours, n, &mut centres) {
+    if !intersection::finder::find_centres(neighbours, n, &mut centres) {
         return Answer::Refused(Refusal::NoStar);
     }
     let length = plan_lease(
@@ -334,7 +331,7 @@ fn plan_groups(
         xsecond,
         yfirst,
         ysecond,
-        &neighbours,
+        neighbours,
         &centres,
         work,
         out,
@@ -343,7 +340,8 @@ fn plan_groups(
     Answer::Planned(length)
 }
 
-// The plan of a well-formed job, unless fewer words or bytes are lent than it needs, or some group of its runs is no star.
+// The plan of a well-formed job, unless fewer words or bytes are lent than it needs, or some group of its runs is no star. The arrays for the runs' places hold the
+// sides of their boxes first.
 fn plan_job(
     number: u32,
     n: usize,
@@ -366,6 +364,19 @@ fn plan_job(
     let mut xsecond = [0u32; 32];
     let mut yfirst = [0u32; 32];
     let mut ysecond = [0u32; 32];
+    let mut neighbours = [0u32; 32];
+    intersection::find_neighbours(
+        x1,
+        y1,
+        x2,
+        y2,
+        n,
+        &mut neighbours,
+        &mut xfirst,
+        &mut xsecond,
+        &mut yfirst,
+        &mut ysecond,
+    );
     let size = survey::lay_out(
         n,
         x1,
@@ -401,6 +412,7 @@ fn plan_job(
         &xsecond,
         &yfirst,
         &ysecond,
+        &neighbours,
         words,
         work,
         out,

@@ -2,10 +2,10 @@
 use crate::Size;
 ghost use mathlib.Core.Path.{_≡_};
 ghost use Prim.Native.Nat.{_+_, _*_, _≤_};
-ghost use lib.ListN.{replicate};
+ghost use lib.ListN.{length, replicate};
 ghost use Rattle.planner.specs.Stages.{Placing, Within, stepsOn};
 
-// Puts the lines of n runs on both axes, and the places of the runs' points among them, among zeros, and says how many lines there are.
+// Puts the lines of n runs on both axes among zeros, and the places of the runs' points among them, and says how many lines there are.
 pub fn lay_out(
     n: usize,
     x1: &[u32; 32],
@@ -19,17 +19,15 @@ pub fn lay_out(
     yfirst: &mut [u32; 32],
     ysecond: &mut [u32; 32],
 ) -> Size
-    requires { ⌜ (n ≤ 32) × (now columns ≡ replicate 64 0) × (now rows ≡ replicate 64 0) × (now xfirst ≡ replicate 32 0) × (now xsecond ≡ replicate 32 0)
-        × (now yfirst ≡ replicate 32 0) × (now ysecond ≡ replicate 32 0) ⌝ }
+    requires { ⌜ (n ≤ 32) × (now columns ≡ replicate 64 0) × (now rows ≡ replicate 64 0) × (length (now xfirst) ≡ 32) × (length (now xsecond) ≡ 32)
+        × (length (now yfirst) ≡ 32) × (length (now ysecond) ≡ 32) ⌝ }
     ensures { λ r. ⌜ Placing (now (x1 .entry)) (now (x2 .entry)) n (r .across) (now (columns .exit)) (now (xfirst .exit)) (now (xsecond .exit))
         × Placing (now (y1 .entry)) (now (y2 .entry)) n (r .down) (now (rows .exit)) (now (yfirst .exit)) (now (ysecond .exit)) ⌝ }
 {
     let across = grid::lay_lines(x1, x2, n, columns);
     let down = grid::lay_lines(y1, y2, n, rows);
-    table::side::places(&*columns, across, x1, n, xfirst);
-    table::side::places(&*columns, across, x2, n, xsecond);
-    table::side::places(&*rows, down, y1, n, yfirst);
-    table::side::places(&*rows, down, y2, n, ysecond);
+    table::side::places(&*columns, across, x1, x2, n, xfirst, xsecond);
+    table::side::places(&*rows, down, y1, y2, n, yfirst, ysecond);
     Size { across, down }
 }
 

@@ -2,7 +2,7 @@
 use mathlib.Core.Path.{_≡_, refl, _∙_, subst}
 use mathlib.Core.Bool.{Bool, true, false, cond, _&&_}
 use mathlib.Core.List.{List}
-use Prim.Native.Nat.{ℕ, _+_, _^_, _≤_, _<_, min, max}
+use Prim.Native.Nat.{ℕ, _+_, _*_, _^_, _≤_, _<_, min, max}
 use native.Mathlib.Omega.{arith}
 use native.Mathlib.Nat.{two-pow-succ}
 use native.Mathlib.Decide.{decLe, decLt}
@@ -37,51 +37,43 @@ covers-high p q i h = go (leb (min p q) i)
     go true = lt-leb i (max p q) h
     go false = refl
 
--- whichever end comes first
-pub covers-ends : (p q i : ℕ) → covers (min p q) (max p q) i ≡ covers p q i
-unfolding covers
-covers-ends p q i =
-    let a : min (min p q) (max p q) ≡ min p q = omega arith in
-    let b : max (min p q) (max p q) ≡ max p q = omega arith in
-    rw (a, b)
-
 -- ---- one run put into the sets of its lines
 
 -- the lines from lo up to i have the bit, the others are as they were
 pub record Spread (bit lo : ℕ) (t s : List ℕ) (i : ℕ) : Type 0 where
-  pub size : length s ≡ 64
-  pub new : (j : ℕ) → lo ≤ j → j < i → getD s j 0 ≡ bit + getD t j 0
-  pub below : (j : ℕ) → j < lo → getD s j 0 ≡ getD t j 0
-  pub above : (j : ℕ) → i ≤ j → getD s j 0 ≡ getD t j 0
+  pub size : length s ≡ 192
+  pub new : (j : ℕ) → lo ≤ j → j < i → getD s (j * 3) 0 ≡ bit + getD t (j * 3) 0
+  pub below : (j : ℕ) → j < lo → getD s (j * 3) 0 ≡ getD t (j * 3) 0
+  pub above : (j : ℕ) → i ≤ j → getD s (j * 3) 0 ≡ getD t (j * 3) 0
 
 -- before the first line nothing has changed
-pub spread-none : (bit lo : ℕ) (t : List ℕ) → length t ≡ 64 → Spread bit lo t t lo
+pub spread-none : (bit lo : ℕ) (t : List ℕ) → length t ≡ 192 → Spread bit lo t t lo
 spread-none bit lo t h = record { size = h; new = λ j a b. absurd (omega arith); below = λ j a. refl; above = λ j a. refl }
 
 -- the bit is put into one line more
 pub spread-more : (bit lo : ℕ) (t s : List ℕ) (i : ℕ) → Spread bit lo t s i → lo ≤ i → i < 64
-    → Spread bit lo t (set s i (bit + getD s i 0)) (i + 1)
+    → Spread bit lo t (set s (i * 3) (bit + getD s (i * 3) 0)) (i + 1)
 spread-more bit lo t s i r h k =
     record {
-      size = length-set s i (bit + getD s i 0) ∙ r .size;
+      size = length-set s (i * 3) (bit + getD s (i * 3) 0) ∙ r .size;
       new = λ j a b. new j a (decLt j i) b;
-      below = λ j a. getD-set-other s i j (bit + getD s i 0) 0 (λ e. omega arith) ∙ r .below j a;
-      above = λ j a. getD-set-other s i j (bit + getD s i 0) 0 (λ e. omega arith) ∙ r .above j (omega arith);
+      below = λ j a. getD-set-other s (i * 3) (j * 3) (bit + getD s (i * 3) 0) 0 (λ e. omega arith) ∙ r .below j a;
+      above = λ j a. getD-set-other s (i * 3) (j * 3) (bit + getD s (i * 3) 0) 0 (λ e. omega arith) ∙ r .above j (omega arith);
     }
   where
-    new : (j : ℕ) → lo ≤ j → Dec (j < i) → j < i + 1 → getD (set s i (bit + getD s i 0)) j 0 ≡ bit + getD t j 0
-    new j a (yes l) b = getD-set-other s i j (bit + getD s i 0) 0 (λ e. omega arith) ∙ r .new j a l
+    new : (j : ℕ) → lo ≤ j → Dec (j < i) → j < i + 1 → getD (set s (i * 3) (bit + getD s (i * 3) 0)) (j * 3) 0 ≡ bit + getD t (j * 3) 0
+    new j a (yes l) b = getD-set-other s (i * 3) (j * 3) (bit + getD s (i * 3) 0) 0 (λ e. omega arith) ∙ r .new j a l
     new j a (no n) b =
         let e : j ≡ i = omega arith in
-        let f : i < length s = omega (arith, r .size) in
-        rw e (getD-set-same s i (bit + getD s i 0) 0 f ∙ omega (arith, r .above i (omega arith)))
+        let f : i * 3 < length s = omega (arith, r .size) in
+        rw e (getD-set-same s (i * 3) (bit + getD s (i * 3) 0) 0 f ∙ omega (arith, r .above i (omega arith)))
 
 -- behind the last line exactly the box has got the bit
 pub spread-done : (bit lo hi : ℕ) (t s : List ℕ) (i : ℕ) → Spread bit lo t s i → lo ≤ hi → i ≡ hi + 1
-    → (j : ℕ) → getD s j 0 ≡ cond (covers lo hi j) bit 0 + getD t j 0
+    → (j : ℕ) → getD s (j * 3) 0 ≡ cond (covers lo hi j) bit 0 + getD t (j * 3) 0
 spread-done bit lo hi t s i r h e j = go (decLt j lo) (decLe j hi)
   where
-    go : Dec (j < lo) → Dec (j ≤ hi) → getD s j 0 ≡ cond (covers lo hi j) bit 0 + getD t j 0
+    go : Dec (j < lo) → Dec (j ≤ hi) → getD s (j * 3) 0 ≡ cond (covers lo hi j) bit 0 + getD t (j * 3) 0
     go (yes a) b = rw (covers-low lo hi j (omega arith)) (omega (arith, r .below j a))
     go (no a) (yes b) = rw (covers-in lo hi j (omega arith) (omega arith)) (r .new j (omega arith) (omega arith))
     go (no a) (no b) = rw (covers-high lo hi j (omega arith)) (omega (arith, r .above j (omega arith)))

@@ -1,18 +1,20 @@
 -- Laws of the frame's lines: counting forth and back, and the lines made of the sets and lengths of an axis.
-use mathlib.Core.Path.{_≡_, refl, _∙_}
+use mathlib.Core.Path.{_≡_, refl, ap, _∙_}
 use mathlib.Core.List.{List}
-use Prim.Native.Nat.{ℕ, zero, suc, _+_, _-_, _*_, _≤_, _<_}
+use Prim.Native.Nat.{ℕ, zero, suc, _+_, _-_, _*_, _≤_, _<_, max}
 use native.Mathlib.Omega.{arith}
-use native.Mathlib.Decide.{decLt}
+use native.Mathlib.Decide.{ℕ-discrete, decLt}
+use native.Mathlib.Numerals.{add-one}
 use lib.Bits.{bitAnd}
 use lib.ListN.{length, getD, set, length-set}
 use lib.Seq.{getD-set-same, getD-set-other}
 use borrow.Author.Count.{below-more}
 use borrow.Author.Tests.{lt-ltb, le-ltb}
 use Rattle.network.specs.Plane.{gap}
+use Rattle.grid.specs.Lines.{lengthAt}
 use Rattle.table.specs.declared.frame.Line.{Line}
-use Rattle.table.specs.Side.{leavesOn, sideOf}
-use Rattle.table.specs.Frame.{lineIn, putLine, lineOf, lowerOf, frameLine, FrameLines}
+use Rattle.table.specs.Side.{Rises}
+use Rattle.table.specs.Frame.{lineIn, putLine, lineOf, lowerOf, frameLine}
 
 -- ---- counting
 
@@ -44,21 +46,19 @@ unfolding gap
 gap-lt n p q h k = omega arith
 
 -- what is computed at the first line is the frame's line
-pub first-line : (on len : ℕ → ℕ) (p q i here : ℕ) → i ≡ 0 → here ≡ lineOf p q i
-    → record { on = on here; into = 0; len = 0 } ≡ frameLine on len p q i
+pub first-line : (on len : ℕ → ℕ) (p q i a : ℕ) → i ≡ 0 → a ≡ on (lineOf p q i) → record { on = a; into = 0; len = 0 } ≡ frameLine on len p q i
 unfolding frameLine
-first-line on len p q zero here e h = rw h
-first-line on len p q (suc i) here e h = absurd (omega arith)
+first-line on len p q zero a e h = rw h
+first-line on len p q (suc i) a e h = absurd (omega arith)
 
 -- and what is computed at a later line
-pub next-line : (on len : ℕ → ℕ) (p q i here before low : ℕ) → (i ≡ 0 → ⊥)
-    → here ≡ lineOf p q i → before ≡ lineOf p q (i - 1) → low ≡ lowerOf p q (i - 1)
-    → record { on = on here; into = bitAnd (on here) (on before); len = len low } ≡ frameLine on len p q i
+pub next-line : (on : ℕ → ℕ) (lines : List ℕ) (p q i a b low : ℕ) → (i ≡ 0 → ⊥) → a ≡ on (lineOf p q i) → b ≡ on (lineOf p q (i - 1)) → low ≡ lowerOf p q (i - 1)
+    → record { on = a; into = bitAnd a b; len = getD lines (low + 1) 0 - getD lines low 0 } ≡ frameLine on (lengthAt lines) p q i
 unfolding frameLine
-next-line on len p q zero here before low n h k l = absurd (n refl)
-next-line on len p q (suc i) here before low n h k l =
+next-line on lines p q zero a b low n h k l = absurd (n refl)
+next-line on lines p q (suc i) a b low n h k l =
     let e : suc i - 1 ≡ i = omega arith in
-    rw (h, k, l, e)
+    rw (add-one low, h, k, l, e)
 
 -- what holds of each entry below k, and of what is stored at k, holds of each entry below k + 1
 pub set-next : {A : Type 0} (d : A) (t : List A) (k : ℕ) (v : A) → k < length t → (P : ℕ → A → Type 0) → ((j : ℕ) → j < k → P j (getD t j d)) → P k v
@@ -68,16 +68,7 @@ set-next d t k v h P all here =
 
 -- ---- lines within the axis
 
--- a line of the frame is a line of the axis
-pub line-lt : (n p q i : ℕ) → p < n → q < n → i ≤ gap p q → lineOf p q i < n
-unfolding gap
-line-lt n p q i h k l = go (decLt q p)
-  where
-    go : Dec (q < p) → lineOf p q i < n
-    go (yes e) = omega (arith, line-back p q i e)
-    go (no e) = omega (arith, line-forth p q i (omega arith))
-
--- and so are both lines of an edge
+-- both lines of an edge are lines of the axis
 pub lower-lt : (n p q i : ℕ) → p < n → q < n → i < gap p q → suc (lowerOf p q i) < n
 unfolding gap
 lower-lt n p q i h k l = go (decLt q p)
@@ -86,21 +77,14 @@ lower-lt n p q i h k l = go (decLt q p)
     go (yes e) = omega (arith, lower-back p q i e)
     go (no e) = omega (arith, lower-forth p q i (omega arith))
 
--- the frame reads the sets at the axis' lines alone
-pub frame-same : (f g len : ℕ → ℕ) (n p q i : ℕ) → p < n → q < n → i ≤ gap p q → ((j : ℕ) → j < n → f j ≡ g j)
-    → frameLine f len p q i ≡ frameLine g len p q i
-unfolding frameLine
-frame-same f g len n p q zero h k l e = rw (e (lineOf p q 0) (line-lt n p q 0 h k l))
-frame-same f g len n p q (suc i) h k l e =
-    rw (e (lineOf p q (suc i)) (line-lt n p q (suc i) h k l), e (lineOf p q i) (line-lt n p q i h k (omega arith)))
-
--- the lines made of the sets at the axis' lines are those of the centre's frame
-pub lines-are : (first second len : List ℕ) (n leaves c : ℕ) (on : List ℕ) (line : ℕ → Line) → getD first c 0 < 64 → getD second c 0 < 64
-    → ((i : ℕ) → i < 64 → getD on i 0 ≡ leavesOn first second n leaves i)
-    → ((i : ℕ) → i ≤ gap (getD first c 0) (getD second c 0) → line i ≡ frameLine (λ j. getD on j 0) (λ j. getD len j 0) (getD first c 0) (getD second c 0) i)
-    → FrameLines (sideOf first second len) n leaves c line
-lines-are first second len n leaves c on line h k sets made =
-    λ i b. made i b ∙ frame-same _ _ _ 64 (getD first c 0) (getD second c 0) i h k b sets
+-- which rise up to the centre's points
+pub lower-rises : (lines : List ℕ) (p q i low : ℕ) → Rises lines p q → i < gap p q → low ≡ lowerOf p q i → getD lines low 0 ≤ getD lines (low + 1) 0
+unfolding gap
+lower-rises lines p q i low r h e = rw (add-one low) (r low (go (decLt q p)))
+  where
+    go : Dec (q < p) → low < max p q
+    go (yes l) = omega (arith, lower-back p q i l)
+    go (no l) = omega (arith, lower-forth p q i (omega arith))
 
 -- ---- the array of lines
 
@@ -145,3 +129,12 @@ pub line-next : (t : List ℕ) (i : ℕ) (l : Line) → length t ≡ 192 → i <
     → (j : ℕ) → j < i + 1 → P j (lineIn (putLine t i l) j)
 line-next t i l h k P all here =
     below-more (λ j. P j (lineIn (putLine t i l) j)) i (λ j b. rw (line-other t i j l (λ e. omega arith)) (all j b)) (rw (line-same t i l h k) here)
+
+-- the sets of all lines stay where the line that is put in has its own
+pub sets-kept : (t : List ℕ) (i j : ℕ) (l : Line) → length t ≡ 192 → i < 64 → l .on ≡ getD t (i * 3) 0 → getD (putLine t i l) (j * 3) 0 ≡ getD t (j * 3) 0
+unfolding lineIn
+sets-kept t i j l h k e = go (ℕ-discrete j i)
+  where
+    go : Dec (j ≡ i) → getD (putLine t i l) (j * 3) 0 ≡ getD t (j * 3) 0
+    go (yes q) = rw q (ap (λ x. x .on) (line-same t i l h k) ∙ e)
+    go (no q) = ap (λ x. x .on) (line-other t i j l q)

@@ -10,7 +10,7 @@ use native.Mathlib.Nat.{lt-of-le-of-lt, eq-or-lt-of-le}
 use lib.Bits.{bitAnd, and-zero-r, and-le-l}
 use lib.Count.{trailingZeros, trailing-le}
 use lib.Dec.{eqb, ltb}
-use lib.ListN.{length, getD}
+use lib.ListN.{length}
 use lib.Pow.{pow-pos, pow-lt}
 use borrow.Author.Tests.{eq-eqb, ne-eqb}
 use Rattle.network.specs.Plane.{Run, gap}
@@ -28,6 +28,7 @@ use Rattle.sharing.proofs.Owners.{Lies, EdgeIn, lies-in, in-lies}
 use Rattle.sharing.proofs.Centre.{lies-leaf, separate, leaf-owner, no-owner}
 use Rattle.intersection.specs.Sets.{has}
 use Rattle.intersection.proofs.Digits.{has-and, has-power, has-pack, none-has, same-set, trailing-below, trailing-at}
+use Rattle.grid.specs.Lines.{lengthAt}
 use Rattle.table.specs.Side.{Side, Placed, covers, leafOn, leavesOn}
 use Rattle.table.specs.Frame.{Group, lineOf, lowerOf, frameLine, ahead, goesDown, crosses, Grouped}
 use Rattle.table.specs.OnSides.{sideAt, firstAt, secondAt, OnSides, viewBy, boxBy}
@@ -104,7 +105,7 @@ module _ (grid : Grid) (runs : List Run) (xs ys : Side) (c leaves : ℕ) (g : Gr
 
   -- the lines of the group
   frame-lines : (d : Dir) (i : ℕ) → i ≤ I .size d
-      → lineAt g d i ≡ frameLine (leavesOn (sideAt xs ys d .first) (sideAt xs ys d .second) (length runs) leaves) (λ j. getD (sideAt xs ys d .len) j 0) (firstAt xs ys c d) (secondAt xs ys c d) i
+      → lineAt g d i ≡ frameLine (leavesOn (sideAt xs ys d .first) (sideAt xs ys d .second) (length runs) leaves) (lengthAt (sideAt xs ys d .lines)) (firstAt xs ys c d) (secondAt xs ys c d) i
   frame-lines hor i h = G .columns i (omega (arith, size-is hor))
   frame-lines ver i h = G .rows i (omega (arith, size-is ver))
 
@@ -240,9 +241,11 @@ module _ (grid : Grid) (runs : List Run) (xs ys : Side) (c leaves : ℕ) (g : Gr
       let p = first-lt d c (C .listed) in
       let q = second-lt d c (C .listed) in
       let l = axis-lower n (firstAt xs ys c d) (secondAt xs ys c d) p q s (omega (arith, size-is d)) in
+      let low = lowerOf (firstAt xs ys c d) (secondAt xs ys c d) s in
+      let within : suc low < n = lower-lt n (firstAt xs ys c d) (secondAt xs ys c d) s p q (omega (arith, size-is d)) in
       ap (λ l. l .len) (frame-lines d (suc s) h)
-      ∙ S .lengths d (lowerOf (firstAt xs ys c d) (secondAt xs ys c d) s) (lower-lt n (firstAt xs ys c d) (secondAt xs ys c d) s p q (omega (arith, size-is d)))
-      ∙ ap (λ i. getD (lines grid d) (suc i) 0 - getD (lines grid d) i 0) l
+      ∙ ap₂ (λ x y. x - y) (S .same-lines d (suc low) within) (S .same-lines d low (omega arith))
+      ∙ ap (lengthAt (lines grid d)) l
 
   -- THEOREM: the group draws the star
   pub group-drawn : Drawn g I
@@ -275,7 +278,7 @@ line-short on len p q (suc i) h = h (lowerOf p q i)
 
 -- the group of runs whose edges are no longer than 2,000,000 suits work words in which its table has room
 pub group-fit : (g : Group) (xs ys : Side) (n c leaves : ℕ) (words : List ℕ) → Grouped xs ys n c leaves g → Placed (xs .first) (xs .second) n → Placed (ys .first) (ys .second) n → c < n
-    → ((d : Dir) (i : ℕ) → getD (sideAt xs ys d .len) i 0 ≤ 2000000) → g .h * g .w * 4 ≤ length words → Fit g words
+    → ((d : Dir) (i : ℕ) → lengthAt (sideAt xs ys d .lines) i ≤ 2000000) → g .h * g .w * 4 ≤ length words → Fit g words
 group-fit g xs ys n c leaves words G X Y h short room =
     let x = gap-lt 64 (firstAt xs ys c hor) (secondAt xs ys c hor) (X c h .0) (X c h .1) in
     let y = gap-lt 64 (firstAt xs ys c ver) (secondAt xs ys c ver) (Y c h .0) (Y c h .1) in
@@ -289,6 +292,6 @@ group-fit g xs ys n c leaves words G X Y h short room =
     }
   where
     lines-at : (d : Dir) (i : ℕ) → i ≤ gap (firstAt xs ys c d) (secondAt xs ys c d)
-        → lineAt g d i ≡ frameLine (leavesOn (sideAt xs ys d .first) (sideAt xs ys d .second) n leaves) (λ j. getD (sideAt xs ys d .len) j 0) (firstAt xs ys c d) (secondAt xs ys c d) i
+        → lineAt g d i ≡ frameLine (leavesOn (sideAt xs ys d .first) (sideAt xs ys d .second) n leaves) (lengthAt (sideAt xs ys d .lines)) (firstAt xs ys c d) (secondAt xs ys c d) i
     lines-at hor i b = G .columns i b
     lines-at ver i b = G .rows i b

@@ -3,7 +3,7 @@
 use mathlib.Core.Path.{_≡_, ap, _∙_}
 use mathlib.Core.Bool.{true, false}
 use mathlib.Core.List.{List}
-use Prim.Native.Nat.{ℕ, suc, pred, _-_, _≤_, _<_}
+use Prim.Native.Nat.{ℕ, suc, _≤_, _<_}
 use native.Mathlib.Omega.{arith}
 use native.Mathlib.Decide.{decLt}
 use lib.ListN.{length, getD}
@@ -14,21 +14,20 @@ use Rattle.network.specs.Distinct.{distinct}
 use Rattle.network.specs.Plane.{Run}
 use Rattle.network.specs.Graph.{runAt, meets}
 use Rattle.network.specs.Steps.{Dir, hor, ver}
+use Rattle.sharing.specs.View.{lines}
 use Rattle.sharing.specs.Table.{Exact, figure}
 use Rattle.sharing.specs.Walk.{Traced}
 use Rattle.sharing.specs.Star.{starOf, Centred}
 use Rattle.sharing.proofs.Trace.{traced}
 use Rattle.sharing.proofs.Runs.{indexed-shows, facing-rises}
 use Rattle.grid.specs.declared.Axis.{Axis}
-use Rattle.grid.specs.Tables.{table, padded}
 use Rattle.grid.specs.Runs.{runsHeld}
 use Rattle.grid.specs.Lines.{values, axisOf, lengthAt}
-use Rattle.grid.proofs.Tables.{getD-padded, getD-behind}
-use Rattle.network.specs.Entries.{length-table, getD-table}
-use Rattle.grid.proofs.Places.{position-line, axis-lengths}
+use Rattle.grid.proofs.Tables.{getD-behind}
+use Rattle.grid.proofs.Places.{position-line, axis-line}
 use Rattle.grid.proofs.Hanan.{length-runs, run-at, columns-are, rows-are, axis-columns, axis-rows, run-placed, length-within}
 use Rattle.intersection.specs.Sets.{has}
-use Rattle.table.specs.Side.{Side, Sided, firstOf, secondOf}
+use Rattle.table.specs.Side.{Side, Sided, Rises, firstOf, secondOf}
 use Rattle.table.specs.Side
 use Rattle.table.specs.OnSides.{sideAt, firstAt, secondAt, OnSides, viewBy, boxBy}
 use Rattle.table.specs.Frame.{Group, Grouped}
@@ -48,25 +47,19 @@ module _ (a : Axis) (l first second : List ℕ) (n : ℕ) (s : Side) (e : a ≡ 
   second-line : (k : ℕ) → k < n → Listed l (getD second k 0) → (secondOf s k < length l) × (getD l (secondOf s k) 0 ≡ getD second k 0)
   second-line k h v = rw (z .seconds k h) (position-line a l e r (getD second k 0) v)
 
-  -- the lengths, and zeros behind them
-  len-is : s .len ≡ padded 64 (table (lengthAt l) (pred (length l)))
-  len-is = z .lengths ∙ ap (padded 64) (axis-lengths a l e)
+  -- the lines
+  line-at : (i : ℕ) → i < length l → getD (s .lines) i 0 ≡ getD l i 0
+  line-at i h = ap (λ t. getD t i 0) (z .same-lines) ∙ axis-line a l e i h
 
-  -- the lengths of the edges
-  length-at : (i : ℕ) → suc i < length l → getD (s .len) i 0 ≡ getD l (suc i) 0 - getD l i 0
-  length-at i h =
-      ap (λ t. getD t i 0) len-is ∙ getD-padded 64 (table (lengthAt l) (pred (length l))) i (omega (arith, length-table (lengthAt l) (pred (length l))))
-      ∙ getD-table (lengthAt l) (pred (length l)) i 0 (omega arith)
-
-  -- a bound of the axis' edges is one of the array
-  length-le : (m : ℕ) → ((i : ℕ) → suc i < length l → lengthAt l i ≤ m) → (i : ℕ) → getD (s .len) i 0 ≤ m
+  -- a bound of the axis' edges is one of all lengths that the side gives
+  length-le : (m : ℕ) → ((i : ℕ) → suc i < length l → lengthAt l i ≤ m) → (i : ℕ) → lengthAt (s .lines) i ≤ m
   length-le m h i = go (decLt (suc i) (length l))
     where
-      go : Dec (suc i < length l) → getD (s .len) i 0 ≤ m
-      go (yes k) = rw (length-at i k) (h i k)
+      go : Dec (suc i < length l) → lengthAt (s .lines) i ≤ m
+      go (yes k) = rw (line-at (suc i) k, line-at i (omega arith)) (h i k)
       go (no k) =
-          let n = length-table (lengthAt l) (pred (length l)) in
-          let b : getD (s .len) i 0 ≡ 0 = ap (λ t. getD t i 0) len-is ∙ getD-behind 64 (table (lengthAt l) (pred (length l))) i (omega arith) in
+          let b : getD (s .lines) (suc i) 0 ≡ 0 =
+          ap (λ t. getD t (suc i) 0) (z .same-lines) ∙ ap (λ (x : Axis). getD (x .lines) (suc i) 0) e ∙ getD-behind 64 l (suc i) (omega arith) in
           omega arith
 
 -- ---- the job
@@ -107,7 +100,7 @@ module _ (x1 y1 x2 y2 : List ℕ) (n : ℕ) (few : n ≤ 32) (a b : Axis) (ea : 
 
   -- no edge is longer than the coordinates allow
   pub short : (m : ℕ) → ((i : ℕ) → i < n → (getD x1 i 0 ≤ m) × (getD x2 i 0 ≤ m)) → ((i : ℕ) → i < n → (getD y1 i 0 ≤ m) × (getD y2 i 0 ≤ m))
-      → (d : Dir) (i : ℕ) → getD (sideAt xs ys d .len) i 0 ≤ m
+      → (d : Dir) (i : ℕ) → lengthAt (sideAt xs ys d .lines) i ≤ m
   short m hx hy hor =
       length-le a (grid .columns) x1 x2 n xs (axis-columns x1 y1 x2 y2 n a ea) (grid .columns-rise) sx m
       (rw (columns-are x1 y1 x2 y2 n) (length-within x1 x2 n m hx))
@@ -123,12 +116,24 @@ module _ (x1 y1 x2 y2 : List ℕ) (n : ℕ) (few : n ≤ 32) (a b : Axis) (ea : 
             (record { fits = elim [ hor ↦ first-x k m .0 | ver ↦ first-y k m .0 ]; at-line = elim [ hor ↦ first-x k m .1 | ver ↦ first-y k m .1 ] });
         second-at = λ k l. let m : k < n = rw size at l in rw (run-at x1 y1 x2 y2 n k m)
             (record { fits = elim [ hor ↦ second-x k m .0 | ver ↦ second-y k m .0 ]; at-line = elim [ hor ↦ second-x k m .1 | ver ↦ second-y k m .1 ] });
-        lengths = elim [
-          | hor ↦ length-at a (grid .columns) x1 x2 n xs (axis-columns x1 y1 x2 y2 n a ea) (grid .columns-rise) sx
-          | ver ↦ length-at b (grid .rows) y1 y2 n ys (axis-rows x1 y1 x2 y2 n b eb) (grid .rows-rise) sy
+        same-lines = elim [
+          | hor ↦ line-at a (grid .columns) x1 x2 n xs (axis-columns x1 y1 x2 y2 n a ea) (grid .columns-rise) sx
+          | ver ↦ line-at b (grid .rows) y1 y2 n ys (axis-rows x1 y1 x2 y2 n b eb) (grid .rows-rise) sy
         ];
         is-leaf = λ k l. h k (rw size at l);
       }
+
+-- the lines that the sides hold rise up to each run's points
+pub sides-rise : (grid : Grid) (runs : List Run) (xs ys : Side) (c leaves : ℕ) → OnSides grid runs xs ys c leaves → (k : ℕ) → k < length runs
+    → (d : Dir) → Rises (sideAt xs ys d .lines) (firstAt xs ys k d) (secondAt xs ys k d)
+sides-rise grid runs xs ys c leaves S k h d i l =
+    let p = S .first-at k h .fits d in
+    let q = S .second-at k h .fits d in
+    omega (arith, S .same-lines d i (omega arith), S .same-lines d (suc i) (omega arith), rise d i (omega arith))
+  where
+    rise : (d : Dir) → Rising (lines grid d)
+    rise hor = grid .columns-rise
+    rise ver = grid .rows-rise
 
 -- ---- the star
 

@@ -8,6 +8,7 @@ use lib.Bits.{bitAnd}
 use lib.Dec.{ltb}
 use lib.ListN.{getD, set}
 use Rattle.network.specs.Plane.{gap}
+use Rattle.grid.specs.Lines.{lengthAt}
 use Rattle.intersection.specs.Sets.{pack}
 use Rattle.table.specs.declared.frame.Line.{Line}
 use Rattle.table.specs.declared.frame.Frame.{Frame}
@@ -74,7 +75,7 @@ crosses x1 x2 y1 y2 c k =
 abbrev pub FrameLines : Side → ℕ → ℕ → ℕ → (ℕ → Line) → Type 0
 FrameLines s n leaves c line =
     (i : ℕ) → i ≤ gap (firstOf s c) (secondOf s c)
-    → line i ≡ frameLine (leavesOn (s .first) (s .second) n leaves) (λ j. getD (s .len) j 0) (firstOf s c) (secondOf s c) i
+    → line i ≡ frameLine (leavesOn (s .first) (s .second) n leaves) (lengthAt (s .lines)) (firstOf s c) (secondOf s c) i
 
 -- g is the centre c with some leaves, of n runs
 pub record Grouped (xs ys : Side) (n c leaves : ℕ) (g : Group) : Type 0 where

@@ -1,7 +1,7 @@
 -- The two sides of a job, one a direction, hold its runs on the lines of a grid.
 use mathlib.Core.Path.{_≡_}
 use mathlib.Core.List.{List}
-use Prim.Native.Nat.{ℕ, suc, _-_, _≤_, _<_}
+use Prim.Native.Nat.{ℕ, _≤_, _<_}
 use lib.ListN.{length, getD}
 use Rattle.network.specs.Plane.{Run}
 use Rattle.network.specs.Grid.{Grid}
@@ -30,7 +30,7 @@ pub record OnSides (grid : Grid) (runs : List Run) (xs ys : Side) (c leaves : �
   pub few : length runs ≤ 32
   pub first-at : (k : ℕ) → k < length runs → Indexed grid (runAt runs k .first) (firstAt xs ys k)
   pub second-at : (k : ℕ) → k < length runs → Indexed grid (runAt runs k .second) (secondAt xs ys k)
-  pub lengths : (d : Dir) (i : ℕ) → suc i < length (lines grid d) → getD (sideAt xs ys d .len) i 0 ≡ getD (lines grid d) (suc i) 0 - getD (lines grid d) i 0
+  pub same-lines : (d : Dir) (i : ℕ) → i < length (lines grid d) → getD (sideAt xs ys d .lines) i 0 ≡ getD (lines grid d) i 0
   pub is-leaf : (k : ℕ) → k < length runs → has leaves k ≡ meets grid runs c k
 
 -- the view of run c by the sides

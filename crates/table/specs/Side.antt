@@ -3,23 +3,22 @@
 use mathlib.Core.Path.{_≡_}
 use mathlib.Core.Bool.{Bool, _&&_}
 use mathlib.Core.List.{List}
-use Prim.Native.Nat.{ℕ, pred, _<_, min, max}
+use Prim.Native.Nat.{ℕ, suc, _≤_, _<_, min, max}
 use lib.Dec.{leb}
 use lib.ListN.{getD}
 use Rattle.grid.specs.declared.Axis.{Axis}
-use Rattle.grid.specs.Tables.{table, padded}
-use Rattle.grid.specs.Lines.{indexOf, lengthAt}
+use Rattle.grid.specs.Lines.{indexOf}
 use Rattle.intersection.specs.Sets.{has, pack}
 
--- the runs on one axis: the positions of their first and of their second points among the axis' lines, and the length of the edge from each line to the next
+-- the runs on one axis: the positions of their first and of their second points among the axis' lines, and these lines
 pub record Side : Type 0 where
   pub first : List ℕ
   pub second : List ℕ
-  pub len : List ℕ
+  pub lines : List ℕ
 
 -- the side that three arrays hold
 abbrev pub sideOf : List ℕ → List ℕ → List ℕ → Side
-sideOf first second len = record { first = first; second = second; len = len }
+sideOf first second lines = record { first = first; second = second; lines = lines }
 
 -- l holds the positions of n values among the first m lines
 abbrev pub PlacesOf : List ℕ → ℕ → List ℕ → ℕ → List ℕ → Type 0
@@ -29,7 +28,7 @@ PlacesOf lines m values n l = (k : ℕ) → k < n → getD l k 0 ≡ indexOf lin
 pub record Sided (axis : Axis) (first second : List ℕ) (n : ℕ) (s : Side) : Type 0 where
   pub firsts : PlacesOf (axis .lines) (axis .count) first n (s .first)
   pub seconds : PlacesOf (axis .lines) (axis .count) second n (s .second)
-  pub lengths : s .len ≡ padded 64 (table (lengthAt (axis .lines)) (pred (axis .count)))
+  pub same-lines : s .lines ≡ axis .lines
 
 -- the position of the first point of run k
 abbrev pub firstOf : Side → ℕ → ℕ
@@ -42,6 +41,10 @@ secondOf s k = getD (s .second) k 0
 -- every position of the first n runs is that of one of 64 lines
 abbrev pub Placed : (first second : List ℕ) → ℕ → Type 0
 Placed first second n = (k : ℕ) → k < n → (getD first k 0 < 64) × (getD second k 0 < 64)
+
+-- no line up to the positions p and q is above the next
+abbrev pub Rises : List ℕ → ℕ → ℕ → Type 0
+Rises lines p q = (i : ℕ) → i < max p q → getD lines i 0 ≤ getD lines (suc i) 0
 
 -- a box from position p to position q has line i
 unfoldable pub covers : ℕ → ℕ → ℕ → Bool

@@ -1,11 +1,12 @@
 // The centre's frame: columns and rows counted from its first point to its second, with the sets of leaves from which the owner of an edge is found.
 ghost use mathlib.Core.Path.{_≡_};
 ghost use mathlib.Core.Bool.{cond};
-ghost use Prim.Native.Nat.{ℕ, suc, _+_, _^_, _≤_, _<_};
+ghost use Prim.Native.Nat.{ℕ, suc, _+_, _-_, _*_, _^_, _≤_, _<_};
 ghost use lib.ListN.{length, getD};
 ghost use Rattle.network.specs.Plane.{gap};
+ghost use Rattle.grid.specs.Lines.{lengthAt};
 ghost use Rattle.intersection.specs.Sets.{pack};
-ghost use Rattle.table.specs.Side.{Placed, sideOf};
+ghost use Rattle.table.specs.Side.{Placed, Rises, sideOf};
 ghost use Rattle.table.specs.Frame.{lineIn, putLine, groupOf, lineOf, lowerOf, frameLine, ahead, goesDown, crosses, FrameLines, Grouped};
 
 // A line of the frame: the leaves whose box has it, those whose box has the line before it too (none at the first line), and the length of the edge from that line.
@@ -51,14 +52,6 @@ pub fn gap(p: usize, q: usize) -> usize
     if q < p { p - q } else { q - p }
 }
 
-// The line after i steps from position p towards q.
-fn line_of(p: usize, q: usize, i: usize) -> usize
-    requires { ⌜ (p < 64) × (q < 64) × (i ≤ gap p q) ⌝ }
-    ensures { λ r. ⌜ (r ≡ lineOf p q i) × (r < 64) ⌝ }
-{
-    if q < p { p - i } else { p + i }
-}
-
 // The lower one of the lines after i and after i + 1 steps.
 fn lower_of(p: usize, q: usize, i: usize) -> usize
     requires { ⌜ (p < 64) × (q < 64) × (i < gap p q) ⌝ }
@@ -67,38 +60,40 @@ fn lower_of(p: usize, q: usize, i: usize) -> usize
     if q < p { p - (i + 1) } else { p + i }
 }
 
-// Line i of the frame, from the leaves on each line of the axis and the lengths between them.
-fn line_at(on: &[u32; 64], len: &[u32; 64], p: usize, q: usize, i: usize) -> Line
-    requires { ⌜ (p < 64) × (q < 64) × (i ≤ gap p q) ⌝ }
-    ensures { λ r. ⌜ r ≡ frameLine (λ j. getD (now (on .entry)) j 0) (λ j. getD (now (len .entry)) j 0) p q i ⌝ }
+// Line i of the frame, of which the array holds the leaves already, and those of the line before it: with the length between the two.
+fn line_at(t: &[u32; 192], lines: &[u32; 64], p: usize, q: usize, i: usize) -> Line
+    requires { ⌜ (p < 64) × (q < 64) × (i ≤ gap p q) × (i < 64) × Rises (now lines) p q ⌝ }
+    ensures { λ r. ⌜ ((on : ℕ → ℕ) → getD (now (t .entry)) (i * 3) 0 ≡ on (lineOf p q i) → getD (now (t .entry)) ((i - 1) * 3) 0 ≡ on (lineOf p q (i - 1))
+        → r ≡ frameLine on (lengthAt (now (lines .entry))) p q i)
+        × (r .on ≡ getD (now (t .entry)) (i * 3) 0) ⌝ }
 {
-    let here = line_of(p, q, i);
+    let on = t[i * 3];
     if i == 0 {
         return Line {
-            on: on[here],
+            on,
             into: 0,
             len: 0,
         };
     }
-    let before = line_of(p, q, i - 1);
     let low = lower_of(p, q, i - 1);
     Line {
-        on: on[here],
-        into: on[here] & on[before],
-        len: len[low],
+        on,
+        into: on & t[(i - 1) * 3],
+        len: lines[low + 1] - lines[low],
     }
 }
 
-// The lines of the frame from position p to position q, and how many there are.
-fn frame_lines(on: &[u32; 64], len: &[u32; 64], p: usize, q: usize, t: &mut [u32; 192]) -> usize
-    requires { ⌜ (p < 64) × (q < 64) × (length (now t) ≡ 192) ⌝ }
+// The lines of the frame from position p to position q, whose leaves the array holds already, and how many there are.
+fn frame_lines(lines: &[u32; 64], p: usize, q: usize, t: &mut [u32; 192]) -> usize
+    requires { ⌜ (p < 64) × (q < 64) × Rises (now lines) p q × (length (now t) ≡ 192) ⌝ }
     ensures { λ r. ⌜ (length (now (t .exit)) ≡ 192) × (r ≡ suc (gap p q))
-        × ((i : ℕ) → i ≤ gap p q → lineIn (now (t .exit)) i ≡ frameLine (λ j. getD (now (on .entry)) j 0) (λ j. getD (now (len .entry)) j 0) p q i) ⌝ }
+        × ((on : ℕ → ℕ) → ((i : ℕ) → i ≤ gap p q → getD (now (t .entry)) (i * 3) 0 ≡ on (lineOf p q i))
+        → (i : ℕ) → i ≤ gap p q → lineIn (now (t .exit)) i ≡ frameLine on (lengthAt (now (lines .entry))) p q i) ⌝ }
 {
     let last = gap(p, q);
     let mut i: usize = 0;
     while i <= last {
-        let l = line_at(on, len, p, q, i);
+        let l = line_at(&*t, lines, p, q, i);
         put_line(t, i, l);
         i += 1;
     }
@@ -109,21 +104,20 @@ fn frame_lines(on: &[u32; 64], len: &[u32; 64], p: usize, q: usize, t: &mut [u32
 fn lines_of(
     first: &[u32; 32],
     second: &[u32; 32],
-    len: &[u32; 64],
+    lines: &[u32; 64],
     n: usize,
     leaves: u32,
     centre: usize,
     t: &mut [u32; 192],
 ) -> usize
-    requires { ⌜ (n ≤ 32) × Placed (now first) (now second) n × (centre < n) × (length (now t) ≡ 192) ⌝ }
+    requires { ⌜ (n ≤ 32) × Placed (now first) (now second) n × (centre < n) × Rises (now lines) (getD (now first) centre 0) (getD (now second) centre 0) × (length (now t) ≡ 192) ⌝ }
     ensures { λ r. ⌜ (length (now (t .exit)) ≡ 192) × (r ≡ suc (gap (getD (now (first .entry)) centre 0) (getD (now (second .entry)) centre 0)))
-        × FrameLines (sideOf (now (first .entry)) (now (second .entry)) (now (len .entry))) n leaves centre (lineIn (now (t .exit))) ⌝ }
+        × FrameLines (sideOf (now (first .entry)) (now (second .entry)) (now (lines .entry))) n leaves centre (lineIn (now (t .exit))) ⌝ }
 {
-    let mut on = [0u32; 64];
-    crate::side::leaves_on(first, second, n, leaves, &mut on);
     let p = first[centre] as usize;
     let q = second[centre] as usize;
-    frame_lines(&on, len, p, q, t)
+    crate::side::leaves_on(first, second, n, leaves, p, q, t);
+    frame_lines(lines, p, q, t)
 }
 
 // From position p to position q it goes ahead on an axis, which may be counted back.
@@ -176,10 +170,10 @@ fn crossing(
 pub fn group_of(
     xfirst: &[u32; 32],
     xsecond: &[u32; 32],
-    xlen: &[u32; 64],
+    xlines: &[u32; 64],
     yfirst: &[u32; 32],
     ysecond: &[u32; 32],
-    ylen: &[u32; 64],
+    ylines: &[u32; 64],
     n: usize,
     centre: usize,
     leaves: u32,
@@ -187,13 +181,14 @@ pub fn group_of(
     rows: &mut [u32; 192],
 ) -> Frame
     requires { ⌜ (n ≤ 32) × Placed (now xfirst) (now xsecond) n × Placed (now yfirst) (now ysecond) n × (centre < n)
+        × Rises (now xlines) (getD (now xfirst) centre 0) (getD (now xsecond) centre 0) × Rises (now ylines) (getD (now yfirst) centre 0) (getD (now ysecond) centre 0)
         × (length (now cols) ≡ 192) × (length (now rows) ≡ 192) ⌝ }
-    ensures { λ r. ⌜ Grouped (sideOf (now (xfirst .entry)) (now (xsecond .entry)) (now (xlen .entry)))
-        (sideOf (now (yfirst .entry)) (now (ysecond .entry)) (now (ylen .entry))) n centre leaves (groupOf (now (cols .exit)) (now (rows .exit)) r)
+    ensures { λ r. ⌜ Grouped (sideOf (now (xfirst .entry)) (now (xsecond .entry)) (now (xlines .entry)))
+        (sideOf (now (yfirst .entry)) (now (ysecond .entry)) (now (ylines .entry))) n centre leaves (groupOf (now (cols .exit)) (now (rows .exit)) r)
         × (length (now (cols .exit)) ≡ 192) × (length (now (rows .exit)) ≡ 192) ⌝ }
 {
-    let w = lines_of(xfirst, xsecond, xlen, n, leaves, centre, cols);
-    let h = lines_of(yfirst, ysecond, ylen, n, leaves, centre, rows);
+    let w = lines_of(xfirst, xsecond, xlines, n, leaves, centre, cols);
+    let h = lines_of(yfirst, ysecond, ylines, n, leaves, centre, rows);
     let cross = crossing(xfirst, xsecond, yfirst, ysecond, n, centre);
     Frame { cross, w, h }
 }

@@ -1,5 +1,5 @@
 -- The invariant: the first i runs have been compared with each other. The cases of their boxes tell which of them meet.
-use mathlib.Core.Path.{_≡_, refl, sym, ap, _∙_}
+use mathlib.Core.Path.{_≡_, sym, ap, _∙_}
 use Prim.Native.Nat.{_≤_, _<_, _-_}
 use native.Mathlib.Numerals.{add-one}
 use native.Mathlib.Omega.{arith}
@@ -18,10 +18,10 @@ abbrev μ-loop : tie.MeasureT-loop
 μ-loop x1 y1 x2 y2 n sets₀ left right low high i₀ sets i = n - i
 
 box-sides-requires : tie.Need-box-sides-requires Inv-loop μ-loop
-box-sides-requires c κs = (c .before .before .pre .0, refl, refl)
+box-sides-requires c κs = let p = c .before .before .pre in (p .0, p .2, p .3)
 
 box-sides-requires-2 : tie.Need-box-sides-requires-2 Inv-loop μ-loop
-box-sides-requires-2 c κs = (c .before .before .before .before .before .pre .0, refl, refl)
+box-sides-requires-2 c κs = let p = c .before .before .before .before .before .pre in (p .0, p .4, p .5)
 
 loop-holds : tie.Need-loop-holds Inv-loop μ-loop
 loop-holds c = (omega arith, c .before .before .before .before .before .before .pre .1)
@@ -55,8 +55,10 @@ returns : tie.Need-returns Inv-loop μ-loop
 returns c =
     let l = c .before .loop in
     let a = c .before .before .before .before .before .before .before .before .args in
+    let x = c .before .before .before .before .before .box-sides .ensures in
+    let y = c .before .before .box-sides2 .ensures in
     let e : l .i ≡ a .n = omega arith in
-    l .inv .1 ∙ ap (neighbourSets (meetsIn (runsHeld (a .x1 .now) (a .y1 .now) (a .x2 .now) (a .y2 .now) (a .n)))) e
+    (l .inv .1 ∙ ap (neighbourSets (meetsIn (runsHeld (a .x1 .now) (a .y1 .now) (a .x2 .now) (a .y2 .now) (a .n)))) e, x .0, x .1, y .0, y .1)
 
 pub find-neighbours-spec : {M : Type 1} → statement M
 find-neighbours-spec =

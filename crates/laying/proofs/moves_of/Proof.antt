@@ -19,7 +19,7 @@ group-of-requires : tie.Need-group-of-requires
 group-of-requires c κs =
     let p = c .before .before .before .before .pre in
     let q = group-asks _ _ _ _ _ _ (p .0 .1) _ (p .1) in
-    (q .0, q .1, q .2, omega (arith, q .3), p .3, p .4)
+    (q .0, q .1, q .2, omega (arith, q .3), q .4, q .5, p .3, p .4)
 
 fill-requires : tie.Need-fill-requires
 fill-requires c κs = let p = c .before .before .before .before .before .before .before .before .pre in group-fits _ _ _ _ _ _ (p .0 .1) _ (p .1) _ (c .before .before .before .group-of .ensures .0) _ (p .0 .2)
@@ -49,8 +49,8 @@ returns : tie.Need-returns
 returns c =
     let s = c .before .before .before .before .before .before .before .before .before .before .before .before .before .before .before .before .before .before .before in
     let a = s .args in
-    let xs = sideOf (a .xfirst .now) (a .xsecond .now) (a .xlen .now) in
-    let ys = sideOf (a .yfirst .now) (a .ysecond .now) (a .ylen .now) in
+    let xs = sideOf (a .xfirst .now) (a .xsecond .now) (a .xlines .now) in
+    let ys = sideOf (a .yfirst .now) (a .ysecond .now) (a .ylines .now) in
     let p = s .pre in
     let f = c .before .before .before .before .before .before .before .before .before .before .fill in
     let g = c .before .before .before .before .before .before .before .before .before .before .before .before .before .before .group-of in

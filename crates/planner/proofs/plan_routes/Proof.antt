@@ -1,38 +1,32 @@
 -- The routes are laid on the job's lines, and what is written is their plan.
-use mathlib.Core.Path.{refl, sym, subst}
+use mathlib.Core.Path.{sym, subst}
 use Prim.Native.Nat.{_+_, _*_, _≤_}
 use native.Mathlib.Omega.{arith}
 use denote.Ref.{now}
 use borrow.Author.Needs.{needs}
 use Rattle.planner.specs.Call.{runsOf}
 use Rattle.planner.specs.Held.{jobIn, runsIn}
-use Rattle.planner.proofs.Stages.{placed-rises, roomy, lease-surveyed, laidBy, drawn}
+use Rattle.planner.proofs.Stages.{roomy, lease-surveyed, laidBy, drawn}
 use Rattle.planner.proofs.plan_routes.Statement.{statement}
 use Rattle.planner.proofs.plan_routes.Tie as tie
 
-measure-edges-requires : tie.Need-measure-edges-requires
-measure-edges-requires c κs = let p = c .before .before .before .before .before .pre .1 .on-columns in (p .few, placed-rises _ _ _ _ _ _ _ p, refl)
-
-measure-edges-requires-2 : tie.Need-measure-edges-requires-2
-measure-edges-requires-2 c κs = let p = c .before .before .before .before .before .before .before .pre .1 .on-rows in (p .few, placed-rises _ _ _ _ _ _ _ p, refl)
-
 add-stride : tie.Need-add-stride
-add-stride c = let p = c .before .before .before .before .before .before .before .before .before .pre .1 in omega (arith, p .on-columns .few, p .on-rows .few)
+add-stride c = let p = c .before .before .before .before .before .pre .1 in omega (arith, p .on-columns .few, p .on-rows .few)
 
 lay-requires : tie.Need-lay-requires
 lay-requires c κs =
-    let s = c .before .before .before .before .before .before .before .before .before .before .before .before .before in
+    let s = c .before .before .before .before .before .before .before in
     let a = s .args in
     let j = jobIn (a .number) (a .n) (now (a .numbers)) (now (a .x1)) (now (a .y1)) (now (a .x2)) (now (a .y2)) in
-    let l = lease-surveyed j (a .size) (now (a .columns)) (now (a .rows)) (now (a .xfirst)) (now (a .xsecond)) (now (a .yfirst)) (now (a .ysecond)) (s .pre .1) (now (a .neighbours)) (now (a .centres)) (s .pre .0) _ _ (c .before .before .before .before .before .before .before .measure-edges .ensures) (c .before .before .before .before .before .measure-edges2 .ensures) in
-    ((runsOf (runsIn j), l, s .pre .2 .words), roomy j (a .size) (now (a .columns)) (now (a .rows)) (now (a .xfirst)) (now (a .xsecond)) (now (a .yfirst)) (now (a .ysecond)) (s .pre .1) _ _ _ (s .pre .3 .steps-room))
+    let l = lease-surveyed j (a .size) (now (a .columns)) (now (a .rows)) (now (a .xfirst)) (now (a .xsecond)) (now (a .yfirst)) (now (a .ysecond)) (s .pre .1) (now (a .neighbours)) (now (a .centres)) (s .pre .0) in
+    ((runsOf (runsIn j), l, s .pre .2 .words), roomy j (a .size) (now (a .columns)) (now (a .rows)) (now (a .xfirst)) (now (a .xsecond)) (now (a .yfirst)) (now (a .ysecond)) (s .pre .1) _ (s .pre .3 .steps-room))
 
 write-requires : tie.Need-write-requires
 write-requires c κs =
-    let s = c .before .before .before .before .before .before .before .before .before .before .before .before .before .before .before .before .before .before .before .before .before in
+    let s = c .before .before .before .before .before .before .before .before .before .before .before .before .before .before .before in
     let a = s .args in
     let j = jobIn (a .number) (a .n) (now (a .numbers)) (now (a .x1)) (now (a .y1)) (now (a .x2)) (now (a .y2)) in
-    let l = lease-surveyed j (a .size) (now (a .columns)) (now (a .rows)) (now (a .xfirst)) (now (a .xsecond)) (now (a .yfirst)) (now (a .ysecond)) (s .pre .1) (now (a .neighbours)) (now (a .centres)) (s .pre .0) _ _ (c .before .before .before .before .before .before .before .before .before .before .before .before .before .before .before .measure-edges .ensures) (c .before .before .before .before .before .before .before .before .before .before .before .before .before .measure-edges2 .ensures) in
+    let l = lease-surveyed j (a .size) (now (a .columns)) (now (a .rows)) (now (a .xfirst)) (now (a .xsecond)) (now (a .yfirst)) (now (a .ysecond)) (s .pre .1) (now (a .neighbours)) (now (a .centres)) (s .pre .0) in
     let r = c .before .before .before .before .before .before .before .lay in (
       s .pre .0,
       s .pre .1,
@@ -59,10 +53,10 @@ same-length-4 c = search needs
 
 returns : tie.Need-returns
 returns c =
-    let s = c .before .before .before .before .before .before .before .before .before .before .before .before .before .before .before .before .before .before .before .before .before .before .before .before .before .before in
+    let s = c .before .before .before .before .before .before .before .before .before .before .before .before .before .before .before .before .before .before .before .before in
     let a = s .args in
     let j = jobIn (a .number) (a .n) (now (a .numbers)) (now (a .x1)) (now (a .y1)) (now (a .x2)) (now (a .y2)) in
-    let l = lease-surveyed j (a .size) (now (a .columns)) (now (a .rows)) (now (a .xfirst)) (now (a .xsecond)) (now (a .yfirst)) (now (a .ysecond)) (s .pre .1) (now (a .neighbours)) (now (a .centres)) (s .pre .0) _ _ (c .before .before .before .before .before .before .before .before .before .before .before .before .before .before .before .before .before .before .before .before .measure-edges .ensures) (c .before .before .before .before .before .before .before .before .before .before .before .before .before .before .before .before .before .before .measure-edges2 .ensures) in
+    let l = lease-surveyed j (a .size) (now (a .columns)) (now (a .rows)) (now (a .xfirst)) (now (a .xsecond)) (now (a .yfirst)) (now (a .ysecond)) (s .pre .1) (now (a .neighbours)) (now (a .centres)) (s .pre .0) in
     let r = c .before .before .before .before .before .before .before .before .before .before .before .before .lay in
     let laid = laidBy (r .result) _ (a .size .across + a .size .down) (now (a .xfirst)) (now (a .yfirst)) (now (a .xsecond)) (now (a .ysecond)) (a .n) in
     (drawn j laid (r .ensures .0 _ l .0) _ _ _ (c .before .before .before .before .write .ensures), r .ensures .0 _ l .1)
@@ -71,8 +65,6 @@ pub plan-routes-spec : {M : Type 1} → statement M
 plan-routes-spec =
     tie.close
     (tie.spec
-    measure-edges-requires
-    measure-edges-requires-2
     add-stride
     lay-requires
     write-requires

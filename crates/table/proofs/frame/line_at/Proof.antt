@@ -1,28 +1,25 @@
--- The first line has no line before it; at every other line the definition's two positions are those of the calls.
-use Rattle.table.proofs.Lines.{first-line, next-line}
+-- The first line has no line before it; at every other line the definition's sets and its lower line are those of the code.
+use Rattle.table.proofs.Lines.{first-line, next-line, lower-lt, lower-rises}
+use Prim.Native.Nat.{_-_}
+use mathlib.Core.Path.{refl}
+use native.Mathlib.Omega.{arith}
 use borrow.Author.Needs.{needs}
 use Rattle.table.proofs.frame.line_at.Statement.{statement}
 use Rattle.table.proofs.frame.line_at.Tie as tie
 
-line-of-requires : tie.Need-line-of-requires
-line-of-requires c κs = search needs
+mul-on : tie.Need-mul-on
+mul-on c = search needs
 
-mul-t10 : tie.Need-mul-t10
-mul-t10 c = search needs
+mul-on-2 : tie.Need-mul-on-2
+mul-on-2 c = search needs
 
-element-copy-out-t13 : tie.Need-element-copy-out-t13
-element-copy-out-t13 c = search needs
+element-copy-out-on : tie.Need-element-copy-out-on
+element-copy-out-on c = search needs
 
 returns : tie.Need-returns
 returns c =
-    let a = c .before .before .before .args in
-    first-line _ _ (a .p) (a .q) (a .i) _ (c .before .if1 .taken) (c .before .before .line-of .ensures .0)
-
-sub-line-of : tie.Need-sub-line-of
-sub-line-of c = search needs
-
-line-of-requires-2 : tie.Need-line-of-requires-2
-line-of-requires-2 c κs = search needs
+    let a = c .before .before .args in
+    (λ on e f. first-line on _ (a .p) (a .q) (a .i) _ (c .if1 .taken) e, refl)
 
 sub-lower-of : tie.Need-sub-lower-of
 sub-lower-of c = search needs
@@ -30,54 +27,69 @@ sub-lower-of c = search needs
 lower-of-requires : tie.Need-lower-of-requires
 lower-of-requires c κs = search needs
 
+sub-t9 : tie.Need-sub-t9
+sub-t9 c = search needs
+
+mul-t8 : tie.Need-mul-t8
+mul-t8 c = search needs
+
 mul-t14 : tie.Need-mul-t14
 mul-t14 c = search needs
 
-element-copy-out-t17 : tie.Need-element-copy-out-t17
-element-copy-out-t17 c = search needs
+element-copy-out-t12 : tie.Need-element-copy-out-t12
+element-copy-out-t12 c = search needs
 
-mul-t18 : tie.Need-mul-t18
-mul-t18 c = search needs
+add-t18 : tie.Need-add-t18
+add-t18 c = search needs
 
-element-copy-out-t21 : tie.Need-element-copy-out-t21
-element-copy-out-t21 c = search needs
+mul-t19 : tie.Need-mul-t19
+mul-t19 c =
+    let s = c .before .before .before .before in
+    let a = s .args in
+    omega (arith, c .before .lower-of .ensures .0, lower-lt 64 (a .p) (a .q) (a .i - 1) (s .pre .0) (s .pre .1) (omega arith))
 
-mul-t22 : tie.Need-mul-t22
-mul-t22 c = search needs
+element-copy-out-t22 : tie.Need-element-copy-out-t22
+element-copy-out-t22 c =
+    let s = c .before .before .before .before in
+    let a = s .args in
+    omega (arith, c .before .lower-of .ensures .0, lower-lt 64 (a .p) (a .q) (a .i - 1) (s .pre .0) (s .pre .1) (omega arith))
 
-element-copy-out-t25 : tie.Need-element-copy-out-t25
-element-copy-out-t25 c = search needs
+mul-t23 : tie.Need-mul-t23
+mul-t23 c = search needs
 
-mul-t27 : tie.Need-mul-t27
-mul-t27 c = search needs
+element-copy-out-t26 : tie.Need-element-copy-out-t26
+element-copy-out-t26 c = search needs
 
-element-copy-out-t30 : tie.Need-element-copy-out-t30
-element-copy-out-t30 c = search needs
+sub-t27 : tie.Need-sub-t27
+sub-t27 c =
+    let s = c .before .before .before .before .before .before in
+    let a = s .args in
+    lower-rises (a .lines .now) (a .p) (a .q) (a .i - 1) _ (s .pre .4) (omega arith) (c .before .before .before .lower-of .ensures .0)
 
 returns-2 : tie.Need-returns-2
 returns-2 c =
-    let l = c .before .before .before .before in
-    let a = l .before .before .before .before .args in
-    next-line _ _ (a .p) (a .q) (a .i) _ _ _ (l .before .before .if1 .left) (l .before .before .before .line-of .ensures .0) (l .before .line-of2 .ensures .0) (l .lower-of .ensures .0)
+    let m = c .before .before .before in
+    let a = m .before .before .before .args in
+    (λ on e f. next-line on (a .lines .now) (a .p) (a .q) (a .i) _ _ _ (m .before .if1 .left) e f (m .lower-of .ensures .0), refl)
 
 pub line-at-spec : {M : Type 1} → statement M
 line-at-spec =
     tie.close
     (tie.spec
-    line-of-requires
-    mul-t10
-    element-copy-out-t13
+    mul-on
+    mul-on-2
+    element-copy-out-on
     returns
-    sub-line-of
-    line-of-requires-2
     sub-lower-of
     lower-of-requires
+    sub-t9
+    mul-t8
     mul-t14
-    element-copy-out-t17
-    mul-t18
-    element-copy-out-t21
-    mul-t22
-    element-copy-out-t25
-    mul-t27
-    element-copy-out-t30
+    element-copy-out-t12
+    add-t18
+    mul-t19
+    element-copy-out-t22
+    mul-t23
+    element-copy-out-t26
+    sub-t27
     returns-2)

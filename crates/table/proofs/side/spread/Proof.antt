@@ -18,6 +18,9 @@ loop-holds c = (search needs, search needs, spread-none _ _ _ (c .pre .0))
 mul-t : tie.Need-mul-t Inv-loop μ-loop
 mul-t c = search needs
 
+mul-t-2 : tie.Need-mul-t-2 Inv-loop μ-loop
+mul-t-2 c = search needs
+
 element-copy-out-t : tie.Need-element-copy-out-t Inv-loop μ-loop
 element-copy-out-t c = search needs
 
@@ -27,8 +30,11 @@ add-t c =
     let s = c .before .before .before in
     omega (arith, l .inv .2 .above (l .i) (omega arith), s .pre .3 (l .i) (omega arith))
 
-mul-t-2 : tie.Need-mul-t-2 Inv-loop μ-loop
-mul-t-2 c = search needs
+mul-t-3 : tie.Need-mul-t-3 Inv-loop μ-loop
+mul-t-3 c = search needs
+
+mul-t-4 : tie.Need-mul-t-4 Inv-loop μ-loop
+mul-t-4 c = search needs
 
 element-write-t : tie.Need-element-write-t Inv-loop μ-loop
 element-write-t c = search needs
@@ -57,9 +63,11 @@ spread-spec =
     μ-loop
     loop-holds
     mul-t
+    mul-t-2
     element-copy-out-t
     add-t
-    mul-t-2
+    mul-t-3
+    mul-t-4
     element-write-t
     add-i
     loop-less

@@ -1,10 +1,11 @@
--- Insertion into an array: the lines from the value's place on are shifted by one place, the last one first.
+-- Insertion into an array: the lines from the value's place on go one place further, the last one first or the first one first.
 use mathlib.Core.Path.{_≡_, refl, sym, ap, ap₂, _∙_, subst}
-use mathlib.Core.List.{List, _∷_, _++_, append-assoc}
-use Prim.Native.Nat.{ℕ, suc, _+_, _-_, _≤_, _<_}
+use mathlib.Core.List.{List, [], _∷_, _++_, append-assoc}
+use Prim.Native.Nat.{ℕ, zero, suc, _+_, _-_, _≤_, _<_}
 use native.Mathlib.Nat.{le-refl, lt-of-not-le}
+use native.Mathlib.Numerals.{add-one}
 use native.Mathlib.Omega.{arith}
-use lib.ListN.{length, getD, take, drop, set, replicate, length-append, length-take, length-drop, List·getD-append}
+use lib.ListN.{length, getD, take, drop, set, replicate, length-append, length-take, length-drop, length-set, List·getD-append}
 use lib.Seq.{
   length-take-le,
   take-suc,
@@ -16,15 +17,16 @@ use lib.Seq.{
   drop-append-le,
   set-at,
   set-set,
+  set-append-left,
   getD-set-other,
   getD-take,
 }
 use Rattle.network.specs.Distinct.{insert}
 use Rattle.grid.specs.declared.Axis.{Axis}
 use Rattle.grid.specs.Tables.{padded}
-use Rattle.grid.specs.Lines.{axisOf, linesOf, indexOf, Room}
-use Rattle.grid.proofs.Tables.{length-padded}
-use Rattle.grid.proofs.Insert.{put, insert-there, insert-put}
+use Rattle.grid.specs.Lines.{axisOf, linesOf, indexOf, put, Room}
+use Rattle.grid.proofs.Tables.{length-padded, getD-padded}
+use Rattle.grid.proofs.Insert.{insert-there, insert-put}
 use Rattle.grid.proofs.Places.{Parts, index-le, index-padded, index-parts}
 
 -- one place is gained
@@ -63,7 +65,7 @@ shifted-on m v t i s h =
     let e : i ≡ suc (i - 1) = omega arith in
     subst (λ (j : ℕ). Shifted m v (set t j (getD t (i - 1) 0)) (i - 1)) (sym e) (shifted-suc m v t (i - 1) (subst (Shifted m v t) e s))
 
--- ---- an axis with room for one more
+-- ---- an array with room for one more line
 
 module _ (l : List ℕ) (v : ℕ) (h : length l < 64) where
   -- a value behind all lines needs no shift
@@ -88,6 +90,47 @@ module _ (l : List ℕ) (v : ℕ) (h : length l < 64) where
       ∙ sym (append-assoc (take k l) (v ∷ drop k l) z)
       ∙ ap (λ (n : ℕ). put k v l ++ replicate n 0) e
 
+-- ---- the first one first
+
+-- where x is stored at place i, and the number that was there put behind it, x is put before that number
+put-next : (l : List ℕ) (i x : ℕ) → i < length l → put (suc i) (getD l i 0) (set l i x) ≡ put i x l
+put-next [] i x h = absurd (omega arith)
+put-next (a ∷ l) zero x h = refl
+put-next (a ∷ l) (suc i) x h = ap (λ (k : List ℕ). a ∷ k) (put-next l i x (omega arith))
+
+-- the array t holds n numbers, which with x put at place i are the list m
+pub record Slipped (m t : List ℕ) (n x i : ℕ) : Type 0 where
+  pub rest : List ℕ
+  pub size : length rest ≡ n
+  pub array : t ≡ padded 64 rest
+  pub whole : put i x rest ≡ m
+
+-- one place further: x takes the place of the number there, which is to be put behind it
+pub slipped-on : (m t : List ℕ) (n x i : ℕ) → Slipped m t n x i → i < n → Slipped m (set t i x) n (getD t i 0) (i + 1)
+slipped-on m t n x i s h =
+    let l = s .rest in
+    let o : i < length l = omega (arith, s .size) in
+    record {
+      rest = set l i x;
+      size = length-set l i x ∙ s .size;
+      array =
+          ap (λ (k : List ℕ). set k i x) (s .array) ∙ set-append-left l (replicate (64 - length l) 0) i x o
+          ∙ ap (λ (j : ℕ). set l i x ++ replicate (64 - j) 0) (sym (length-set l i x));
+      whole =
+          ap₂ (λ (j y : ℕ). put j y (set l i x)) (add-one i) (ap (λ (k : List ℕ). getD k i 0) (s .array) ∙ getD-padded 64 l i o)
+          ∙ put-next l i x o ∙ s .whole;
+    }
+
+-- behind the last number x is stored
+pub slipped-end : (m t : List ℕ) (n x : ℕ) → Slipped m t n x n → n < 64 → set t n x ≡ padded 64 m
+slipped-end m t n x s h =
+    let l = s .rest in
+    let o : length l < 64 = omega (arith, s .size) in
+    ap₂ (λ (k : List ℕ) (j : ℕ). set k j x) (s .array) (sym (s .size)) ∙ first-shifted l x o .whole ∙ put-padded l x o (length l) (le-refl (length l))
+    ∙ ap (padded 64) (ap (λ (j : ℕ). put j x l) (s .size) ∙ s .whole)
+
+-- ---- an axis with room for one more
+
 module _ (a : Axis) (v : ℕ) (h : Room a) where
   -- it has as many lines as it says
   count-is : a .count ≡ length (linesOf a)
@@ -110,17 +153,25 @@ module _ (a : Axis) (v : ℕ) (h : Room a) where
       subst (λ (b : Axis). Shifted (padded 63 (linesOf a)) v (b .lines) (b .count)) (sym (h .held))
       (first-shifted (linesOf a) v (omega (arith, count-is, h .room)))
 
+  -- or from the front: at first the value itself is to be put
+  pub slipped-start : (k : ℕ) → Slipped (put k v (linesOf a)) (a .lines) (a .count) v k
+  slipped-start k = record { rest = linesOf a; size = sym count-is; array = ap (λ (b : Axis). b .lines) (h .held); whole = refl }
+
+  -- the store at place k makes the array that holds the lines with v at place k
+  pub shifted-end : (t : List ℕ) (k : ℕ) → k ≤ a .count → Shifted (padded 63 (linesOf a)) v t k → set t k v ≡ padded 64 (put k v (linesOf a))
+  shifted-end t k o s = s .whole ∙ put-padded (linesOf a) v (omega (arith, count-is, h .room)) k (omega (arith, count-is))
+
   -- where the line at v's position is v, the axis is the one with v inserted
   pub line-there : (k : ℕ) → k ≡ indexOf (a .lines) (a .count) v → k < a .count → getD (a .lines) k 0 ≡ v → a ≡ axisOf (insert v (linesOf a))
   line-there k p o e =
       h .held
       ∙ ap axisOf (sym (insert-there k v (linesOf a) (λ i q. parts .under i (omega arith)) (omega (arith, count-is)) (sym (line-is k o) ∙ e)))
 
-  -- where it is not, the store at v's position makes that axis
+  -- where it is not, v put at its position makes that axis
   pub line-put : (k : ℕ) (t : List ℕ) → k ≡ indexOf (a .lines) (a .count) v → (k < a .count → getD (a .lines) k 0 ≡ v → ⊥)
-      → Shifted (padded 63 (linesOf a)) v t k → _≡_ {A = Axis} (record { lines = set t k v; count = a .count + 1 }) (axisOf (insert v (linesOf a)))
-  line-put k t p n s =
-      (λ i. record { lines = (s .whole ∙ put-padded (linesOf a) v (omega (arith, count-is, h .room)) k most) i; count = more i })
+      → t ≡ padded 64 (put k v (linesOf a)) → _≡_ {A = Axis} (record { lines = t; count = a .count + 1 }) (axisOf (insert v (linesOf a)))
+  line-put k t p n e =
+      (λ i. record { lines = e i; count = more i })
       ∙ ap axisOf (sym (insert-put k v (linesOf a) (λ i q. parts .under i (omega arith)) most above))
     where
       most : k ≤ length (linesOf a)

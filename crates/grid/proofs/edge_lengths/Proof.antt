@@ -1,5 +1,5 @@
 -- The invariant: the array holds the lengths of the edges passed.
-use mathlib.Core.Path.{_≡_, ap, _∙_}
+use mathlib.Core.Path.{_≡_, refl, ap, _∙_}
 use Prim.Native.Nat.{ℕ, _≤_, _-_, pred}
 use native.Mathlib.Omega.{arith}
 use native.Mathlib.Numerals.{add-one}
@@ -7,8 +7,8 @@ use lib.ListN.{getD}
 use Rattle.grid.specs.Tables.{table, padded}
 use Rattle.grid.specs.Lines.{lengthAt}
 use Rattle.grid.proofs.Tables.{table-more}
-use Rattle.grid.proofs.measure_edges.Statement.{statement}
-use Rattle.grid.proofs.measure_edges.Tie as tie
+use Rattle.grid.proofs.edge_lengths.Statement.{statement}
+use Rattle.grid.proofs.edge_lengths.Tie as tie
 
 abbrev Inv-loop : tie.InvT-loop
 Inv-loop lines count t₀ i₀ t i = (i ≤ pred count) × (t ≡ padded 64 (table (lengthAt lines) i))
@@ -17,7 +17,7 @@ abbrev μ-loop : tie.MeasureT-loop
 μ-loop lines count t₀ i₀ t i = count - i
 
 loop-holds : tie.Need-loop-holds Inv-loop μ-loop
-loop-holds c = (omega arith, c .pre .2)
+loop-holds c = (omega arith, refl)
 
 add-loop : tie.Need-add-loop Inv-loop μ-loop
 add-loop c = omega arith
@@ -43,8 +43,8 @@ sub-t c = rw add-one (omega (arith, c .before .before .before .before .pre .1 (c
 mul-t-3 : tie.Need-mul-t-3 Inv-loop μ-loop
 mul-t-3 c = omega arith
 
-element-write-t : tie.Need-element-write-t Inv-loop μ-loop
-element-write-t c = omega arith
+array-write-t : tie.Need-array-write-t Inv-loop μ-loop
+array-write-t c = omega arith
 
 add-i : tie.Need-add-i Inv-loop μ-loop
 add-i c = omega arith
@@ -63,8 +63,8 @@ returns c =
     let e : c .before .loop .i ≡ pred (c .before .before .args .count) = omega arith in
     c .before .loop .inv .1 ∙ ap (λ (k : ℕ). padded 64 (table (lengthAt (c .before .before .args .lines .now)) k)) e
 
-pub measure-edges-spec : {M : Type 1} → statement M
-measure-edges-spec =
+pub edge-lengths-spec : {M : Type 1} → statement M
+edge-lengths-spec =
     tie.close
     (tie.spec
     Inv-loop
@@ -78,7 +78,7 @@ measure-edges-spec =
     element-copy-out-t-2
     sub-t
     mul-t-3
-    element-write-t
+    array-write-t
     add-i
     loop-less
     loop-again
