@@ -15,7 +15,7 @@ use Rattle.grid.proofs.Insert.{distinct-last, length-distinct}
 
 module _ (first second : List ℕ) where
   -- no runs, no lines
-  pub distinct-none : distinct (values first second 0) ≡ []
+  distinct-none : distinct (values first second 0) ≡ []
   unfolding values distinct
   distinct-none = refl
 
@@ -62,3 +62,12 @@ line-more a r l v e h = h ∙ ap (λ (k : List ℕ). axisOf (insert v k)) (ap li
 pub insert-rising : (v : ℕ) (l : List ℕ) → Rising (insert v (distinct l))
 unfolding distinct
 insert-rising v l = distinct-rises (v ∷ l)
+
+module _ (first second : List ℕ) where
+  -- no lines are those of no runs
+  pub none-laid : (t : List ℕ) → t ≡ replicate 64 0 → _≡_ {A = Axis} (record { lines = t; count = 0 }) (axisOf (distinct (values first second 0)))
+  none-laid t e = (λ i. record { lines = e i; count = 0 }) ∙ ap axisOf (sym (distinct-none first second))
+
+  -- the lines of so many runs are at most 64
+  pub laid-few : (a : Axis) (n : ℕ) → n ≤ 32 → a ≡ axisOf (distinct (values first second n)) → a .count ≤ 64
+  laid-few a n h e = omega (arith, ap (λ (b : Axis). b .count) e, few-lines first second n)

@@ -1,7 +1,6 @@
 // The columns and rows of a job, and the position of a coordinate in them.
 ghost use mathlib.Core.Path.{_≡_};
-ghost use Prim.Native.Nat.{pred, _≤_, min, max};
-ghost use lib.ListN.{replicate};
+ghost use Prim.Native.Nat.{pred, _+_, _<_, _≤_, min, max};
 ghost use Rattle.network.specs.Distinct.{insert, distinct};
 ghost use Rattle.grid.specs.Tables.{table, padded};
 ghost use Rattle.grid.specs.Lines.{values, axisOf, linesOf, Room, RisingTo, indexOf, put, lengthAt};
@@ -78,29 +77,34 @@ fn shift(lines: &mut [u32; 64], at: usize, count: usize, v: u32)
     lines[at] = v;
 }
 
-// Puts the lines of the first n runs on one axis, of which the arrays hold the first and the second points' values, among zeros, and says how many
-// they are.
-pub fn lay_lines(first: &[u32; 32], second: &[u32; 32], n: usize, lines: &mut [u32; 64]) -> usize
-    requires { ⌜ (n ≤ 32) × (now lines ≡ replicate 64 0) ⌝ }
-    ensures { λ r. ⌜ (record { lines = now (lines .exit); count = r } ≡ axisOf (distinct (values (now (first .entry)) (now (second .entry)) n))) × (r ≤ 64) ⌝ }
+// Puts the lines of run i on one axis, of which the arrays hold the first and the second points' values, among those of the runs before it, and says how many there
+// are then.
+pub fn add_run(
+    lines: &mut [u32; 64],
+    count: usize,
+    first: &[u32; 32],
+    second: &[u32; 32],
+    i: usize,
+) -> usize
+    requires { ⌜ (i < 32) × (record { lines = now lines; count = count } ≡ axisOf (distinct (values (now first) (now second) i))) ⌝ }
+    ensures { λ r. ⌜ record { lines = now (lines .exit); count = r } ≡ axisOf (distinct (values (now (first .entry)) (now (second .entry)) (i + 1))) ⌝ }
 {
-    let mut count: usize = 0;
-    let mut i: usize = 0;
-    while i < n {
-        count = add_line(lines, count, first[i]);
-        count = add_line(lines, count, second[i]);
-        i += 1;
-    }
-    count
+    let more = add_line(lines, count, first[i]);
+    add_line(lines, more, second[i])
 }
 
-// The same lines as an axis.
+// The lines of the first n runs on one axis.
 pub fn axis_of(first: &[u32; 32], second: &[u32; 32], n: usize) -> Axis
     requires { ⌜ n ≤ 32 ⌝ }
     ensures { λ r. ⌜ (r ≡ axisOf (distinct (values (now (first .entry)) (now (second .entry)) n))) × (r .count ≤ 64) ⌝ }
 {
     let mut lines = [0u32; 64];
-    let count = lay_lines(first, second, n, &mut lines);
+    let mut count: usize = 0;
+    let mut i: usize = 0;
+    while i < n {
+        count = add_run(&mut lines, count, first, second, i);
+        i += 1;
+    }
     Axis { lines, count }
 }
 

@@ -5,7 +5,8 @@ ghost use Prim.Native.Nat.{_+_, _*_, _≤_};
 ghost use lib.ListN.{length, replicate};
 ghost use Rattle.planner.specs.Stages.{Placing, Within, stepsOn};
 
-// Puts the lines of n runs on both axes among zeros, and the places of the runs' points among them, and says how many lines there are.
+// Puts the lines of n runs on both axes among zeros, and the places of the runs' points among them, and says how many lines there are. The axes take turns: a line waits
+// for the one before it on its axis.
 pub fn lay_out(
     n: usize,
     x1: &[u32; 32],
@@ -24,8 +25,14 @@ pub fn lay_out(
     ensures { λ r. ⌜ Placing (now (x1 .entry)) (now (x2 .entry)) n (r .across) (now (columns .exit)) (now (xfirst .exit)) (now (xsecond .exit))
         × Placing (now (y1 .entry)) (now (y2 .entry)) n (r .down) (now (rows .exit)) (now (yfirst .exit)) (now (ysecond .exit)) ⌝ }
 {
-    let across = grid::lay_lines(x1, x2, n, columns);
-    let down = grid::lay_lines(y1, y2, n, rows);
+    let mut across: usize = 0;
+    let mut down: usize = 0;
+    let mut i: usize = 0;
+    while i < n {
+        across = grid::add_run(columns, across, x1, x2, i);
+        down = grid::add_run(rows, down, y1, y2, i);
+        i += 1;
+    }
     table::side::places(&*columns, across, x1, x2, n, xfirst, xsecond);
     table::side::places(&*rows, down, y1, y2, n, yfirst, ysecond);
     Size { across, down }

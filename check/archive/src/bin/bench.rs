@@ -60,9 +60,8 @@ const READ_BYTES: usize = 100_000;
 
 /// Where a ratio is above the limit, measuring goes on until it took so many times as long.
 const PATIENCE: u32 = 10;
-/// How long planning a star of up to so many runs may take in lent words, by tuned C that clears as many: that is promised. For 2 and 3
-/// runs 1.0 is wanted too, and not met.
-const PROMISED: [(usize, f64); 3] = [(3, 1.3), (8, 1.0), (MOST_RUNS, 1.1)];
+/// How long planning a star of up to so many runs may take in lent words, by tuned C that clears as many: that is promised.
+const PROMISED: [(usize, f64); 2] = [(8, 1.0), (MOST_RUNS, 1.1)];
 /// Judging a plan book may take as long as planning its job so many times.
 const PLANNINGS: f64 = 2.0;
 
