@@ -1,4 +1,5 @@
 // Reads a plan book of either set of kinds back (document 02, C-12 and C-16): its figures, its routes and their corners, or the first refusal.
+#![tactic(auto)]
 mod scan;
 mod steps;
 
@@ -14,7 +15,7 @@ use records::Record;
 use refusal::Refusal;
 
 // What reading says of a book.
-#[derive(Drop)]
+#[derive(Clone, Copy)]
 pub enum Answer {
     Accepted,
     Refused(Refusal),
@@ -22,7 +23,7 @@ pub enum Answer {
 
 // What reading gives, by value: the answer, the head, and the places of the routes, with that of the end behind them and 0 after it. The head of a
 // refusal has the figures 0, and its places are 0.
-#[derive(Drop)]
+#[derive(Clone, Copy)]
 pub struct Reading {
     pub answer: Answer,
     pub head: Head,
@@ -30,14 +31,14 @@ pub struct Reading {
 }
 
 // The figures of a plan.
-#[derive(Drop)]
+#[derive(Clone, Copy)]
 pub enum Figures {
     Found(Head),
     Nothing,
 }
 
 // A route: its run number, how many runs that one meets, how many corners the route has, and the run number of its group's centre, 0 in an older book.
-#[derive(Drop)]
+#[derive(Clone, Copy)]
 pub enum Route {
     Found {
         number: u32,
@@ -49,21 +50,21 @@ pub enum Route {
 }
 
 // A corner, in decimetres.
-#[derive(Drop)]
+#[derive(Clone, Copy)]
 pub enum Spot {
     Found { x: i32, y: i32 },
     Nothing,
 }
 
 // A corner, each coordinate the decimetres plus 1,000,000: above 2,000,000 where it lies outside its range.
-#[derive(Drop)]
+#[derive(Clone, Copy)]
 pub struct Corner {
     pub x: u32,
     pub y: u32,
 }
 
 // The set of kinds, the routes begun, the corners of the last of them, the last of these corners, and whether the one before it is on its column.
-#[derive(Drop)]
+#[derive(Clone, Copy)]
 pub struct Walk {
     pub grouped: bool,
     pub routes: usize,
@@ -73,7 +74,7 @@ pub struct Walk {
 }
 
 // What a record after the head says.
-#[derive(Drop)]
+#[derive(Clone, Copy)]
 pub enum Step {
     Route {
         number: u32,
@@ -87,7 +88,7 @@ pub enum Step {
 }
 
 // Where no more corner is taken: a route, the end, or a refusal.
-#[derive(Drop)]
+#[derive(Clone, Copy)]
 pub enum Stop {
     Route,
     End(u32),
@@ -95,7 +96,7 @@ pub enum Stop {
 }
 
 // Corners that are taken one behind the other: the place behind them, what is known there, and what stands there.
-#[derive(Drop)]
+#[derive(Clone, Copy)]
 pub struct Run {
     pub at: usize,
     pub walk: Walk,

@@ -3,6 +3,7 @@
 // is of the newer kinds, its number of corners, and these in decimetres, as far as there are answers; of more than 8 the first two, how many are left
 // out, and the last. `differs` follows if reading the book anew tells a route otherwise, or its first or last corner, or if there is an answer past the
 // last one.
+#![tactic(auto)]
 ghost use Rattle.std.specs.Prelude.{◌≡◌, length};
 
 use book::{Answer, Figures, Route, Spot};

@@ -1,5 +1,6 @@
 // Prints the case of every two boxes with corners on a grid of 4 x 4 points: a line for each of the 100 boxes, in it a sign for each of them. The stored signs are
 // those of a plain enumeration: all points that lie in both boxes are listed.
+#![tactic(auto)]
 use intersection::{Box, Case};
 use libc::STDOUT_FILENO;
 

@@ -1,4 +1,5 @@
 // The contractor's book or ours (document 02, C-17): one of two plan books of a job, handed back as lent.
+#![tactic(auto)]
 ghost use Rattle.std.specs.Prelude.{◌≡◌};
 ghost use Rattle.job.specs.Parse.{accepted};
 ghost use Rattle.planner.specs.Verdict.{judged};
@@ -11,7 +12,7 @@ use judge::{Judgement, Known};
 use refusal::Refusal;
 
 // The book to stake from, or why there is none.
-#[derive(Drop)]
+#[derive(Clone, Copy)]
 pub enum Choice {
     First,
     Second,
@@ -19,7 +20,7 @@ pub enum Choice {
 }
 
 // A refusal's number and place, 0 and 0 where there is none.
-#[derive(Drop)]
+#[derive(Clone, Copy)]
 pub struct Refused {
     pub number: u32,
     pub place: usize,

@@ -1,4 +1,5 @@
 // The text of a choice between two plan books of a job: which of them is to be staked from, or the refusal (document 02, C-17).
+#![tactic(auto)]
 ghost use Rattle.std.specs.Prelude.{◌≡◌, ◌≤◌, length, take};
 ghost use Rattle.book.specs.Parse.{parse_plan};
 ghost use Rattle.choice.specs.Choice.{choice_of};

@@ -1,4 +1,6 @@
 // The fields of a book, written into the rest of a lent buffer, and the end record that job books and plan books have alike.
+#![tactic(auto)]
+
 ghost use Rattle.std.specs.Prelude.{◌≡◌, [], ◌∷◌, ◌+◌, ◌≤◌, length};
 ghost use Rattle.job.specs.Fields.{word_of};
 ghost use Rattle.job.specs.Written.{bytes2, bytes4};

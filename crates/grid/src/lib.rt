@@ -1,18 +1,19 @@
 // The columns and rows of a job, and the position of a coordinate in them.
+#![tactic(auto)]
 ghost use Rattle.std.specs.Prelude.{◌≡◌, pred, ◌+◌, ◌<◌, ◌≤◌, min, max};
 ghost use Rattle.network.specs.Distinct.{insert, distinct};
 ghost use Rattle.grid.specs.Tables.{table, padded};
 ghost use Rattle.grid.specs.Lines.{values, axis_of, lines_of, Room, RisingTo, index_of, put, length_at};
 
 // The columns of a job, or its rows: the first count words of lines, rising; the other words are 0.
-#[derive(Drop)]
+#[derive(Clone, Copy)]
 pub struct Axis {
     pub lines: [u32; 64],
     pub count: usize,
 }
 
 // How many of some lines are below each of two values.
-#[derive(Drop)]
+#[derive(Clone, Copy)]
 pub struct Indices {
     pub first: u32,
     pub second: u32,

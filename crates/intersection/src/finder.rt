@@ -13,7 +13,7 @@ ghost use Rattle.intersection.specs.Centres.{joined_in, centres_in};
 use crate::sets;
 
 // Whether every group is a star, and then the centre of each run's group by its index; else zeros.
-#[derive(Drop)]
+#[derive(Clone, Copy)]
 pub struct Centres {
     pub stars: bool,
     pub centres: [usize; 32],

@@ -1,4 +1,5 @@
 // Which runs of a job meet, and the centre of each run's group.
+#![tactic(auto)]
 pub mod finder;
 pub mod sets;
 
@@ -10,7 +11,7 @@ ghost use Rattle.intersection.specs.Centres.{meets_in, neighbour_sets, joined_in
 ghost use Rattle.intersection.specs.Steps.{lower_sides, higher_sides, box_at, Compared, AllCompared};
 
 // The smallest upright rectangle that holds a run's two points.
-#[derive(Drop)]
+#[derive(Clone, Copy)]
 pub struct Box {
     pub left: u32,
     pub right: u32,
@@ -19,7 +20,7 @@ pub struct Box {
 }
 
 // What two boxes have in common, as a person draws it.
-#[derive(Drop)]
+#[derive(Clone, Copy)]
 pub enum Case {
     Apart,
     OnePoint,

@@ -2,6 +2,7 @@
 // numbers of columns and of rows, each run's meets figure, and the number of groups and the index of the centre of each run's group; or `centres none` where some
 // group is no star. The stored figures are those of a plain enumeration: meets by listing all grid edges in each box, groups by joining runs that meet until
 // nothing changes, the centre of a group by trying every run of it.
+#![tactic(auto)]
 ghost use Rattle.std.specs.Prelude.{◌≤◌, ◌<◌, length};
 ghost use Rattle.intersection_vectors.specs.Text.{Within};
 
@@ -9,13 +10,13 @@ use intersection::finder::Centres;
 use libc::STDOUT_FILENO;
 
 // A number of the text, and the place behind it.
-#[derive(Drop)]
+#[derive(Clone, Copy)]
 struct Number {
     value: u32,
     next: usize,
 }
 
-#[derive(Drop)]
+#[derive(Clone, Copy)]
 struct Run {
     x1: u32,
     y1: u32,
@@ -24,7 +25,7 @@ struct Run {
     next: usize,
 }
 
-#[derive(Drop)]
+#[derive(Clone, Copy)]
 struct Job {
     count: usize,
     x1: [u32; 32],

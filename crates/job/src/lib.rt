@@ -1,4 +1,6 @@
 // Reads a job (document 01, "Job book"): one head, then the runs, then one end.
+#![tactic(auto)]
+
 ghost use Rattle.std.specs.Prelude.{◌≡◌, List, [], ℕ, ◌+◌, ◌<◌, ◌≤◌, length, drop};
 ghost use Rattle.std.specs.Int.{w32};
 ghost use Rattle.std.proofs.Common.{to_z};
@@ -11,7 +13,7 @@ ghost use Rattle.job.specs.Reading.{answer_place, job_of, Blank, ReadsInto, Read
 use refusal::Refusal;
 
 // A run from its first point (x1, y1) to its second (x2, y2). A coordinate is the decimetres plus 1,000,000.
-#[derive(Drop)]
+#[derive(Clone, Copy)]
 pub struct Run {
     pub number: u32,
     pub x1: u32,
@@ -21,7 +23,7 @@ pub struct Run {
 }
 
 // A job: run k stands at k in each array, for k below count; the entries from count on are 0.
-#[derive(Drop)]
+#[derive(Clone, Copy)]
 pub struct Job {
     pub number: u32,
     pub count: usize,
@@ -33,21 +35,21 @@ pub struct Job {
 }
 
 // What a call says of the job.
-#[derive(Drop)]
+#[derive(Clone, Copy)]
 pub enum Answer {
     Accepted,
     Refused(Refusal),
 }
 
 // What reading says. The job of a refusal has the number 0 and no run.
-#[derive(Drop)]
+#[derive(Clone, Copy)]
 pub struct Reading {
     pub answer: Answer,
     pub job: Job,
 }
 
 // What reading into arrays says: the answer, the job's number and how many runs stand in the arrays.
-#[derive(Drop)]
+#[derive(Clone, Copy)]
 pub struct Found {
     pub answer: Answer,
     pub number: u32,
@@ -55,7 +57,7 @@ pub struct Found {
 }
 
 // What stands at a place of the job.
-#[derive(Drop)]
+#[derive(Clone, Copy)]
 pub enum Record {
     Head(u32),
     Run(Run),
@@ -65,7 +67,7 @@ pub enum Record {
 }
 
 // What a record after the head says: one more run, the end of the job, or a refusal.
-#[derive(Drop)]
+#[derive(Clone, Copy)]
 pub enum Step {
     Next(Run),
     End,

@@ -1,5 +1,6 @@
 // Prints what reading says of each job on standard input. A line there is a label, a space and the job's bytes in hexadecimal.
 // A refusal prints its number and place; an accepted job prints 0 0, its number, how many runs it has, and each run.
+#![tactic(auto)]
 ghost use Rattle.std.specs.Prelude.{◌<◌};
 
 use job::{Answer, Job, Reading};

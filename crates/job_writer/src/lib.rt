@@ -1,4 +1,5 @@
 // Writes a job book (document 01, "Job book") from a list of numbers, five a run (document 02, C-15).
+#![tactic(auto)]
 ghost use Rattle.std.specs.Prelude.{◌≡◌, true, ◌∷◌, ◌+◌, ◌*◌, ◌≤◌, pos, length};
 ghost use Rattle.std.specs.Int.Signed.{le_z};
 ghost use Rattle.fields.specs.Bytes.{Wrote};
@@ -10,7 +11,7 @@ use job::{Answer, Run};
 use refusal::Refusal;
 
 // A run as it is listed: its number, and its two points in decimetres.
-#[derive(Drop)]
+#[derive(Clone, Copy)]
 pub struct Listed {
     pub number: i32,
     pub x1: i32,
@@ -20,7 +21,7 @@ pub struct Listed {
 }
 
 // What a call says: the book's length, or why there is none.
-#[derive(Drop)]
+#[derive(Clone, Copy)]
 pub enum Outcome {
     Written(usize),
     Refused(Refusal),

@@ -1,6 +1,7 @@
 // Writes the job book of each list on standard input into a dirty buffer. A line there is a label, a space and bytes in hexadecimal: the buffer's length (2 bytes),
 // the job number (4), and the numbers of the list (4 each). Prints the label, then 0 0 and the book's bytes, or the refusal's number and place; and `changed`
 // if a byte of the buffer is not as it is due.
+#![tactic(auto)]
 ghost use Rattle.std.specs.Prelude.{◌≡◌, ◌≤◌, length};
 
 use job_writer::Outcome;

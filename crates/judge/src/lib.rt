@@ -1,4 +1,5 @@
 // Judges a plan book for a job (document 02, C-17): whether it is a book of the job, and true.
+#![tactic(auto)]
 mod compared;
 mod routes;
 
@@ -18,7 +19,7 @@ use refusal::Refusal;
 
 // What is known of a job before a book of it is looked at: the meets figure of each run, the run number of its group's centre, the number of groups, the sum of
 // the runs' distances, and the lines.
-#[derive(Drop)]
+#[derive(Clone, Copy)]
 pub struct Known {
     pub job: Job,
     pub meets: [u32; 32],
@@ -30,7 +31,7 @@ pub struct Known {
 }
 
 // What is judged of a book: its trench figure, or why it is refused.
-#[derive(Drop)]
+#[derive(Clone, Copy)]
 pub enum Judgement {
     Passed(u32),
     Refused(Refusal),

@@ -1,4 +1,5 @@
 // The routes of all runs of a lease: its groups are laid one after the other, in the same work words.
+#![tactic(auto)]
 ghost use Rattle.std.specs.Prelude.{◌≡◌, List, [], ◌≤◌, ◌<◌, length, get_or};
 ghost use Rattle.network.specs.Plane.{Run};
 ghost use Rattle.table.specs.Side.{side_of};
@@ -8,7 +9,7 @@ ghost use Rattle.route.specs.Stored.{tracks_of, routes_in};
 ghost use Rattle.laying.specs.Lease.{table_words, LeaseSurveyed, Roomy, block_of, GroupLayable, GroupWritten, Serving, LaidOut};
 
 // How many moves a centre has, and what they share.
-#[derive(Drop)]
+#[derive(Clone, Copy)]
 pub struct Moves {
     pub saved: u32,
     pub count: usize,

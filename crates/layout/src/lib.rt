@@ -1,6 +1,7 @@
 // From a centre's moves to the route of a run of its group, as steps on the grid's lines. A run is known by its index, and its points by the indexes of their
 // lines on the two axes (`xs` and `ys`). The centre's moves are the trace of the table: steps (0 along the row, any other along the column), and for each
 // the leaf that it is shared with (32 or above: none).
+#![tactic(auto)]
 ghost use Rattle.std.specs.Prelude.{◌≡◌, cond, List, map, reverse, ℕ, ◌+◌, ◌-◌, ◌≤◌, ◌<◌, length, get_or};
 ghost use Rattle.std.proofs.Math.Seq.{slice};
 ghost use Rattle.network.specs.Plane.{gap};
@@ -18,7 +19,7 @@ use table::frame::gap;
 
 // The moves that are shared with a leaf: `size` moves from index `from` on. Of the moves before them `across` go along the row, and of themselves
 // `wide`.
-#[derive(Drop)]
+#[derive(Clone, Copy)]
 pub struct Stretch {
     pub from: u8,
     pub size: u8,
@@ -27,21 +28,21 @@ pub struct Stretch {
 }
 
 // The points of a run on one axis, by the indexes of their lines.
-#[derive(Drop)]
+#[derive(Clone, Copy)]
 pub struct Ends {
     pub first: u32,
     pub second: u32,
 }
 
 // The points of a run on both axes.
-#[derive(Drop)]
+#[derive(Clone, Copy)]
 pub struct Points {
     pub x: Ends,
     pub y: Ends,
 }
 
 // A leaf's way along one axis: how many steps lead to its stretch, how many lead on from it, and if it goes as the centre does.
-#[derive(Drop)]
+#[derive(Clone, Copy)]
 pub struct Way {
     pub before: usize,
     pub after: usize,

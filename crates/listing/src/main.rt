@@ -1,4 +1,5 @@
 // Prints the listing of the job on standard input.
+#![tactic(auto)]
 use libc::{STDIN_FILENO, STDOUT_FILENO};
 
 // The first 640 bytes decide every listing (`report_prefix` of report), and the text buffer has room for all of it (`report_whole`).

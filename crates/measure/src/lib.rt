@@ -1,5 +1,6 @@
 // Measures routes on a grid of at most 64 columns and 64 rows: marks at their corners and on their edges, the length of their union, and their pits. A
 // mark stands at row * 64 + column: of corners at the vertex itself, of edges at the vertex from which the edge goes to the right, or upwards.
+#![tactic(auto)]
 ghost use Rattle.std.specs.Prelude.{◌≡◌, ◌≤◌, ◌<◌, min, max, length};
 ghost use Rattle.network.specs.Grid.{Grid};
 ghost use Rattle.measure.specs.Marks.{direction_of, cell, Stretched, Finds, Ruled, Arrived};
@@ -8,7 +9,7 @@ ghost use Rattle.measure.specs.Measured.{Short, row_trench, row_pits, trench_in,
 use route::Vertex;
 
 // The length of a union, and the number of pits.
-#[derive(Drop)]
+#[derive(Clone, Copy)]
 pub struct Measured {
     pub trench: u64,
     pub pits: usize,

@@ -229,6 +229,8 @@ choices g (r ∷ runs) = in_front (routes_of g r) (choices g runs)
 pub choices_complete : (g : Grid) (runs : List Run) → All (Placed g) runs → All TwoPoints runs → (routes : List Route) → Routes g runs routes
     → Member (map corners routes) (choices g runs)
 unfolding choices
+choices_complete g [] p two (route ∷ routes) m = elim m [ ]
+choices_complete g (r ∷ runs) p two [] m = elim m [ ]
 choices_complete g [] p two [] m = here refl
 choices_complete g (r ∷ runs) p two (route ∷ routes) m =
     member_front (route_chosen g r p.0 two.0 route m.0) (choices_complete g runs p.1 two.1 routes m.1)

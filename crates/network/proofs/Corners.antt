@@ -176,6 +176,8 @@ corners_routes g runs routes m = paired_map (Manhattan g) (Manhattan g) corners 
 -- as many of them are on an edge
 corners_count : (g : Grid) (runs : List Run) (routes : List Route) → Routes g runs routes → (e : Edge) → OfGrid g e
     → count (on e) (map corners routes) ≡ count (on e) routes
+corners_count g [] (route ∷ routes) m e o = elim m [ ]
+corners_count g (run ∷ runs) [] m e o = elim m [ ]
 corners_count g [] [] m e o = refl
 corners_count g (run ∷ runs) (route ∷ routes) m e o =
     ap₂ ◌+◌ (ap (λ t. cond t 1 0) (corners_on g run route m.0 e o)) (corners_count g runs routes m.1 e o)

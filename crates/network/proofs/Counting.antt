@@ -61,11 +61,15 @@ route_length g run route m =
 -- and those of all routes as long as the distances of all runs
 routes_sum : (g : Grid) (runs : List Run) (routes : List Route) → Routes g runs routes
     → sum (λ route. selected g len (λ e. on e route)) routes ≡ sum distance runs
+routes_sum g [] (route ∷ routes) m = elim m [ ]
+routes_sum g (run ∷ runs) [] m = elim m [ ]
 routes_sum g [] [] m = refl
 routes_sum g (run ∷ runs) (route ∷ routes) m = ap₂ ◌+◌ (route_length g run route m.0) (routes_sum g runs routes m.1)
 
 -- there are as many routes as runs
 pub routes_length : (g : Grid) (runs : List Run) (routes : List Route) → Routes g runs routes → length routes ≡ length runs
+routes_length g [] (route ∷ routes) m = elim m [ ]
+routes_length g (run ∷ runs) [] m = elim m [ ]
 routes_length g [] [] m = refl
 routes_length g (run ∷ runs) (route ∷ routes) m = ap suc (routes_length g runs routes m.1)
 

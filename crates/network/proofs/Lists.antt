@@ -216,10 +216,14 @@ all_imp P Q h (x ∷ l) a = (h x a.0, all_imp P Q h l a.1)
 -- what holds of pairs in turn holds of them with the second mapped
 pub paired_map : {A B C : Type 0} (P : A → B → Type 0) (Q : A → C → Type 0) (f : B → C) (l : List A) (k : List B)
     → ((a : A) (b : B) → Member a l → P a b → Q a (f b)) → Paired P l k → Paired Q l (map f k)
+paired_map {A = A} {B = B} {C = C} P Q f [] (b ∷ k) h p = elim p [ ]
+paired_map {A = A} {B = B} {C = C} P Q f (a ∷ l) [] h p = elim p [ ]
 paired_map P Q f [] [] h p = tt
 paired_map P Q f (a ∷ l) (b ∷ k) h p = (h a b (here refl) p.0, paired_map P Q f l k (λ c d m. h c d (there m)) p.1)
 
 -- or of the second alone
 pub paired_all : {A B : Type 0} (P : A → B → Type 0) (Q : B → Type 0) (l : List A) (k : List B) → ((a : A) (b : B) → P a b → Q b) → Paired P l k → All Q k
+paired_all {A = A} {B = B} P Q [] (b ∷ k) h p = elim p [ ]
+paired_all {A = A} {B = B} P Q (a ∷ l) [] h p = elim p [ ]
 paired_all P Q [] [] h p = tt
 paired_all P Q (a ∷ l) (b ∷ k) h p = (h a b p.0, paired_all P Q l k h p.1)

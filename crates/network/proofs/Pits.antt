@@ -199,6 +199,8 @@ one_way g run (p ∷ l) v m a b =
 
 -- one of the routes is the Manhattan path of a run
 route_of_lem : (g : Grid) (runs : List Run) (routes : List Route) → Routes g runs routes → {route : Route} → Member route routes → (run : Run) × Manhattan g run route
+route_of_lem g [] (route ∷ routes) m n = elim m [ ]
+route_of_lem g (run ∷ runs) [] m {route = route} n = elim m [ ]
 route_of_lem g [] [] m n = absurd (Memᴰ.not-nil n)
 route_of_lem g (run ∷ runs) (route ∷ routes) m (here e) = (run, subst (Manhattan g run) (sym e) m.0)
 route_of_lem g (run ∷ runs) (route ∷ routes) m (there n) = route_of_lem g runs routes m.1 n
@@ -297,6 +299,8 @@ module _ (P : Point → Type 0) (cross : (p q : Point) → P p → P q → P (re
 
 -- routes are given by vertices
 pub routes_vertices : (g : Grid) (runs : List Run) (routes : List Route) → Routes g runs routes → All (All (Vertex g)) routes
+routes_vertices g [] (route ∷ routes) m = elim m [ ]
+routes_vertices g (run ∷ runs) [] m = elim m [ ]
 routes_vertices g [] [] m = tt
 routes_vertices g (run ∷ runs) (route ∷ routes) m = (m.0.vertices, routes_vertices g runs routes m.1)
 

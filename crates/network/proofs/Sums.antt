@@ -55,7 +55,7 @@ sum_times n f [] = omega arith
 sum_times n f (a ∷ l) = omega (arith, sum_times n f l)
 
 -- terms that are no greater, and one that is less
-pub sum_less : {A : Type 0} (f g : A → ℕ) {l : List A} → ((a : A) → Member a l → f a ≤ g a) → {a : A} → Member a l → f a < g a → sum f l < sum g l
+pub sum_less : {A : Type 0} (f g : A → ℕ) {a : A} {l : List A} → ((b : A) → Member b l → f b ≤ g b) → Member a l → f a < g a → sum f l < sum g l
 sum_less f g h (here {x} {xs} e) k = omega (arith, ap f e, ap g e, sum_le f g xs (λ b m. h b (there m)))
 sum_less f g h (there {x} {xs} m) k = omega (arith, h x (here refl), sum_less f g (λ b o. h b (there o)) m k)
 

@@ -1,1 +1,2 @@
 // What a least plan is: grid, routes, union, intersection graph. Definitions (specs/) and laws (proofs/) only.
+#![tactic(auto)]

@@ -1,4 +1,5 @@
 // The plan book: each record is written into the rest of the plan buffer behind the record before it. Only the kinds of document 02, C-16, are written.
+#![tactic(auto)]
 ghost use Rattle.std.specs.Prelude.{◌≡◌, true, ◌+◌, ◌*◌, ◌<◌, ◌≤◌, length, take};
 ghost use mathlib.Core.List.{map, flat_map};
 ghost use Rattle.fields.specs.Bytes.{Wrote};
@@ -13,7 +14,7 @@ use route::{Track, Vertex, Walker};
 
 // The figures of a plan's head. A grouped one has the kinds of document 02, C-16, and its last figure is the number of groups; that of an older one is the
 // centre's run number. Of runs, pits and the last figure the lower two bytes are written.
-#[derive(Drop)]
+#[derive(Clone, Copy)]
 pub struct Head {
     pub grouped: bool,
     pub job: u32,
@@ -25,7 +26,7 @@ pub struct Head {
 }
 
 // How many bytes were written, and how many corner records are among them.
-#[derive(Drop)]
+#[derive(Clone, Copy)]
 pub struct Written {
     pub bytes: usize,
     pub corners: usize,

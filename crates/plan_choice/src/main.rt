@@ -1,5 +1,6 @@
 // Chooses between two plan books of a job (document 02, C-17). Its arguments are the names of files: JOB FIRST SECOND [OUT]. It prints which book is to be staked
 // from, or the refusal; where a book is chosen, its bytes go to OUT, if that is named.
+#![tactic(auto)]
 use libc::{STDERR_FILENO, STDOUT_FILENO};
 
 // Opens the file that an argument names, and says so where it cannot.

@@ -1,4 +1,5 @@
 // Prints the listing of the plan book on standard input.
+#![tactic(auto)]
 use libc::{STDIN_FILENO, STDOUT_FILENO};
 
 // The first 36,887 bytes decide every listing (`book_prefix` of plan_report), and the text buffer has room for all of it (`book_whole`).

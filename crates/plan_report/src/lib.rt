@@ -1,4 +1,5 @@
 // The listing of a stored plan: what reading its book says, as text (document 01, "Listing").
+#![tactic(auto)]
 ghost use Rattle.std.specs.Prelude.{◌≡◌, ◌≤◌, length, take};
 ghost use Rattle.book.specs.Parse.{parse_plan};
 ghost use Rattle.plan_report.specs.BookListed.{BookListed};

@@ -1,4 +1,5 @@
 // Prints plans of a few routes: each route's corners in line indexes, the pits, and the bytes that are written into dirty buffers.
+#![tactic(auto)]
 ghost use Rattle.std.specs.Prelude.{◌≡◌, true, map, ◌<◌, ◌≤◌, length, take};
 ghost use Rattle.network.specs.Graph.{below};
 ghost use Rattle.network.specs.Steps.{Fits};
@@ -10,7 +11,7 @@ use plan::Head;
 use route::{Track, Vertex, Walker};
 
 // Routes from (x1[k], y1[k]) to (x2[k], y2[k]), with room for 128 steps each.
-#[derive(Drop)]
+#[derive(Clone, Copy)]
 struct Routes {
     steps: [u8; 4096],
     x1: [u32; 32],

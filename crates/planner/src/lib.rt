@@ -1,4 +1,5 @@
 // The planner: a job's bytes into the bytes of a least plan.
+#![tactic(auto)]
 mod clear;
 pub mod codes;
 pub mod meetings;
@@ -21,21 +22,21 @@ ghost use Rattle.planner.specs.Stages.{Surveyed, Lent, Leased, Scratch, Few, Sho
 use refusal::Refusal;
 
 // What a call says: the plan's length, or why there is none.
-#[derive(Drop)]
+#[derive(Clone, Copy)]
 pub enum Answer {
     Planned(usize),
     Refused(Refusal),
 }
 
 // How many columns and rows a job's grid has.
-#[derive(Drop)]
+#[derive(Clone, Copy)]
 pub struct Size {
     pub across: usize,
     pub down: usize,
 }
 
 // What a forecast tells: the words and the bytes that a job needs, or why it has none.
-#[derive(Drop)]
+#[derive(Clone, Copy)]
 pub enum Foretold {
     Needs(usize, usize),
     Refused(Refusal),

@@ -4,6 +4,7 @@
 // figure and the number of its centre; then `kept`, or `changed` if a byte or a word, lent or not, is not as it is due.
 // Of the seven calls four are of `plan`, lent just the forecast, more of both, a word less and a byte less; two of `plan_for_map`, lent the forecast's
 // bytes and one less; and the last of `plan_in`, lent just the forecast.
+#![tactic(auto)]
 ghost use Rattle.std.specs.Prelude.{◌≡◌, ◌≤◌, length};
 
 use libc::{STDIN_FILENO, STDOUT_FILENO};

@@ -1,4 +1,5 @@
 // The records of a plan book, read (document 01, "Plan book"; document 02, C-16).
+#![tactic(auto)]
 ghost use Rattle.std.specs.Prelude.{◌≡◌, true, cond, ◌≤◌, length};
 ghost use Rattle.job.specs.Fields.{word2};
 ghost use Rattle.plan.specs.Records.{route_size};
@@ -9,7 +10,7 @@ use plan::Head;
 
 // What stands at a place of a plan book: a whole record, or what is none of the six kinds. A grouped route is of the newer kind; an older one has the centre
 // 0. The coordinates of a corner are words in two's complement.
-#[derive(Drop)]
+#[derive(Clone, Copy)]
 pub enum Record {
     Head(Head),
     Route {

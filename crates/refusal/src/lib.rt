@@ -1,9 +1,10 @@
 // Why a call is refused: every refusal of documents 01 and 02, with its number and its place.
+#![tactic(auto)]
 ghost use Rattle.std.specs.Prelude.{◌≡◌};
 ghost use Rattle.refusal.specs.Refusal.{refusal_number, refusal_place};
 
 // The documents' numbers 1 to 9 and 11 to 17 in this order. A case that has a place holds it.
-#[derive(Drop)]
+#[derive(Clone, Copy)]
 pub enum Refusal {
     ShortWork,
     ShortBuffer,

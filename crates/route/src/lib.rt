@@ -1,5 +1,6 @@
 // Routes on the lines of a grid: the walker along a route, its corners, and the pits of several routes. A line is named by its index
 // among the columns or the rows.
+#![tactic(auto)]
 ghost use Rattle.std.specs.Prelude.{◌≡◌, ◌||◌, map, ℕ, ◌+◌, ◌*◌, ◌/◌, ◌<◌, ◌≤◌, length, get_or, take};
 ghost use Rattle.network.specs.Lists.{All};
 ghost use Rattle.network.specs.Plane.{gap};
@@ -11,7 +12,7 @@ ghost use Rattle.route.specs.Marked.{digits, Clear, Counted, along, visited, tou
 ghost use Rattle.network.specs.Pits.{pits_of};
 
 // Where a column and a row cross.
-#[derive(Drop)]
+#[derive(Clone, Copy)]
 pub struct Vertex {
     pub column: usize,
     pub row: usize,
@@ -19,7 +20,7 @@ pub struct Vertex {
 
 // A route without its steps, which stand in a slice: the first `count` of them, from `start` on. 0 goes along the row, any other along the
 // column. `right` and `up` say whether the indexes of the columns and of the rows rise.
-#[derive(Drop)]
+#[derive(Clone, Copy)]
 pub struct Track {
     pub count: usize,
     pub start: Vertex,
@@ -28,7 +29,7 @@ pub struct Track {
 }
 
 // A place on a route: the index of the next step, the vertex, and the heading of the step that led there.
-#[derive(Drop)]
+#[derive(Clone, Copy)]
 pub struct Walker {
     pub at: usize,
     pub here: Vertex,
@@ -36,14 +37,14 @@ pub struct Walker {
 }
 
 // The walker after a step, and whether the step turned at the vertex that it left.
-#[derive(Drop)]
+#[derive(Clone, Copy)]
 pub struct Stepped {
     pub walker: Walker,
     pub turned: bool,
 }
 
 // How many pits came with a route, and how many corners it has.
-#[derive(Drop)]
+#[derive(Clone, Copy)]
 pub struct Seen {
     pub pits: usize,
     pub corners: usize,

@@ -13,6 +13,8 @@ use Rattle.sharing.specs.Star.{route_at}
 -- one Manhattan route for each run, by their numbers
 pub routes_at : (g : Grid) (runs : List Run) (routes : List Route) → Routes g runs routes → (k : ℕ) → k < length runs
     → Manhattan g (run_at runs k) (route_at routes k)
+routes_at g [] (route ∷ routes) m k h = elim m [ ]
+routes_at g (run ∷ runs) [] m k h = elim m [ ]
 routes_at g [] [] m k h = absurd (omega arith)
 routes_at g (run ∷ runs) (route ∷ routes) m zero h = m.0
 routes_at g (run ∷ runs) (route ∷ routes) m (suc k) h = routes_at g runs routes m.1 k (omega arith)

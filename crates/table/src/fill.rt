@@ -7,7 +7,7 @@ ghost use Rattle.table.specs.Rule.{pair_of, edge_by, unless_own, if_own, rule_of
 use crate::frame::{Frame, Line};
 
 // The edge along one direction that ends at a vertex: its two words, the set whose one member is its owner, and its length.
-#[derive(Drop)]
+#[derive(Clone, Copy)]
 pub struct Edge {
     pub best: u32,
     pub run: u32,
@@ -16,14 +16,14 @@ pub struct Edge {
 }
 
 // The two words of an edge.
-#[derive(Drop)]
+#[derive(Clone, Copy)]
 pub struct Pair {
     pub best: u32,
     pub run: u32,
 }
 
 // The words of the two edges that end at a vertex.
-#[derive(Drop)]
+#[derive(Clone, Copy)]
 pub struct Cell {
     pub hor: Pair,
     pub ver: Pair,

@@ -7,7 +7,7 @@ ghost use Rattle.table.specs.Side.{Placed, Rises, side_of};
 ghost use Rattle.table.specs.Frame.{line_in, put_line, group_of, line_of, lower_of, frame_line, ahead, goes_down, crosses, FrameLines, Grouped};
 
 // A line of the frame: the leaves whose box has it, those whose box has the line before it too (none at the first line), and the length of the edge from that line.
-#[derive(Drop)]
+#[derive(Clone, Copy)]
 pub struct Line {
     pub on: u32,
     pub into: u32,
@@ -15,7 +15,7 @@ pub struct Line {
 }
 
 // The size of a centre's frame, w columns and h rows, and the leaves that slope the other way than the centre.
-#[derive(Drop)]
+#[derive(Clone, Copy)]
 pub struct Frame {
     pub cross: u32,
     pub w: usize,

@@ -8,7 +8,7 @@ use crate::fill::Edge;
 use crate::frame::{Frame, Line};
 
 // An edge of the walk: its direction, and if it is taken as part of a stretch with its owner.
-#[derive(Drop)]
+#[derive(Clone, Copy)]
 pub struct Taken {
     pub ver: bool,
     pub run: bool,

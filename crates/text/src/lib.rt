@@ -1,5 +1,6 @@
 // The text of a plan, of a refusal (document 01, "Listing") and of a choice (document 02, C-17). Each piece is written into the rest of the text buffer behind the piece before
 // it. A writer puts as much of its text as there is room for at the front of what it is lent, and answers how many bytes that is.
+#![tactic(auto)]
 ghost use Rattle.std.specs.Prelude.{◌≡◌, [], ◌∷◌, ◌++◌, length, replicate};
 ghost use Rattle.std.specs.Int.{w32};
 ghost use Rattle.std.proofs.Common.{to_z};
@@ -13,7 +14,7 @@ use records::Record;
 use refusal::Refusal;
 
 // How many bytes of a plan were read, and how many of its text were written.
-#[derive(Drop)]
+#[derive(Clone, Copy)]
 pub struct Step {
     pub read: usize,
     pub written: usize,

@@ -131,6 +131,8 @@ module _ (g : Grid) where
 
   routes_units : (runs : List Run) (routes : List Route) → Routes g runs routes → All (UnitOf g (λ e. any (on e) routes)) (flat_map pieces (map walked routes))
   unfolding flat_map
+  routes_units [] (route ∷ routes) w = elim w [ ]
+  routes_units (run ∷ runs) [] w = elim w [ ]
   routes_units [] [] w = tt
   routes_units (run ∷ runs) (route ∷ routes) w =
       all_append (UnitOf g (λ e. any (on e) (route ∷ routes))) (pieces (walked route)) (flat_map pieces (map walked routes))

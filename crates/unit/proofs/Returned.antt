@@ -73,6 +73,8 @@ module _ (g : Grid) (f : Point → Point) (w : Rounds g f) (e : Edge) (o : OfGri
       ap (any (lies e)) (pieces_moved f (p ∷ walk_from p l)) ∙ any_map (lies e) (moved_piece f) (pieces_from p (walk_from p l)) ∙ from_on p l v s
 
   routes_on : (runs : List Run) (routes : List Route) → Routes g runs routes → any (on e) (map (map f) (map walked routes)) ≡ any (on e) routes
+  routes_on [] (route ∷ routes) m = elim m [ ]
+  routes_on (run ∷ runs) [] m = elim m [ ]
   routes_on [] [] m = refl
   routes_on (run ∷ runs) (route ∷ routes) m = ap₂ ◌||◌ (route_on route m.0.vertices m.0.straight) (routes_on runs routes m.1)
 
@@ -85,6 +87,8 @@ returned g f w runs routes m = edges_cong g _ _ (λ e o. ap (λ t. cond t (len e
 -- routes walked in unit steps have no shorter a union
 pub walked_no_shorter : (g : Grid) (runs : List Run) (routes : List Route) → Routes g runs routes → union_length g routes ≤ unit_length (map walked routes)
 unfolding union_length unit_length
+walked_no_shorter g [] (_ ∷ routes) m = elim m [ ]
+walked_no_shorter g (run ∷ runs) [] m = elim m [ ]
 walked_no_shorter g [] [] m = omega (arith, sum_zero (edges g))
 walked_no_shorter g (run ∷ runs) ([] ∷ routes) m = absurd m.0.starts
 walked_no_shorter g (run ∷ runs) ((p ∷ l) ∷ routes) m =

@@ -20,6 +20,7 @@ use Rattle.unit.proofs.Emptiest.{emptiest_union}
 pub no_longer_routes : (g : Grid) (runs : List Run) → All (Placed g) runs → (paths : List Route) → UnitPaths runs paths
     → (routes : List Route) × Routes g runs routes × (union_length g routes ≤ unit_length paths)
 unfolding union_length unit_length
+no_longer_routes g [] j (_ ∷ _) u = elim u [ ]
 no_longer_routes g [] j [] u = ([], tt, omega (arith, sum_zero (edges g)))
 no_longer_routes g (run ∷ runs) j paths u =
     let a : 0 < length g.columns = omega (arith, j.0.first_vertex.column.1) in

@@ -6,10 +6,8 @@ use lib.IntN.{ℤ, pos, negsuc, ◌-ℤ◌}
 use mir.Syntax.{w32}
 use mir.Val.{SFits, to_z, of_z}
 use mir.ValLaws.{to_z-of_z}
-use borrow.Author.Rules.{rules}
 use Rattle.job.proofs.Signed.{low, high}
-use Rattle.job.proofs.signed_of.Statement.{statement}
-use Rattle.job.proofs.signed_of.Tie as tie
+use Rattle.job.proofs.signed_of.Goals as goal
 
 minus_one : (n : ℕ) → n < 2147483648 → negsuc 0 -ℤ to_z w32 n ≡ negsuc n
 minus_one n h = ap (λ z. negsuc 0 -ℤ z) (low n h) ∙ go n
@@ -21,31 +19,16 @@ minus_one n h = ap (λ z. negsuc 0 -ℤ z) (low n h) ∙ go n
 minus_fits : (n : ℕ) → n < 2147483648 → SFits w32 (negsuc n)
 minus_fits n h = record { sfits = omega arith }
 
-cast-result : tie.Need-overflow-cast-result
-cast-result c = search rules
-
-returns : tie.Need-returns
-returns c = search rules
-
-sub-result : tie.Need-overflow-sub-result
-sub-result c = search rules
-
-cast-result-2 : tie.Need-overflow-cast-result-2
-cast-result-2 c = search rules
-
-sub-result-2 : tie.Need-overflow-sub-result-2
-sub-result-2 c =
-    let n = 4294967295 - c.before.args.word in
-    let h : n < 2147483648 = omega (arith, c.if1.false) in
+pub overflow_sub-result-2 : goal.overflow_sub-result-2
+overflow_sub-result-2 c =
+    let n = 4294967295 - c.args.word in
+    let h : n < 2147483648 = omega (arith, c.if-word-lt2147483648.false) in
     subst (SFits w32) (sym (minus_one n h)) (minus_fits n h)
 
-returns-2 : tie.Need-returns-2
-returns-2 c =
-    let w = c.before.args.word in
+pub returns : goal.returns
+returns c =
+    let w = c.args.word in
     let n = 4294967295 - w in
-    let h : n < 2147483648 = omega (arith, c.if1.false) in
+    let h : n < 2147483648 = omega (arith, c.if-word-lt2147483648.false) in
     let e : n ≡ 4294967296 - suc w = omega arith in
-    ap (λ (z : ℤ). to_z w32 (of_z w32 z)) (minus_one n h) ∙ to_z-of_z w32 (negsuc n) (minus_fits n h) ∙ ap negsuc e ∙ sym (high w c.if1.false)
-
-pub signed-of-spec : {M : Type 1} → statement M
-signed-of-spec = tie.close (tie.spec cast-result returns sub-result cast-result-2 sub-result-2 returns-2)
+    ap (λ (z : ℤ). to_z w32 (of_z w32 z)) (minus_one n h) ∙ to_z-of_z w32 (negsuc n) (minus_fits n h) ∙ ap negsuc e ∙ sym (high w c.if-word-lt2147483648.false)
