@@ -1,5 +1,6 @@
 // The columns and rows of a job, and the position of a coordinate in them.
 #![tactic(auto)]
+
 ghost use Rattle.std.specs.Prelude.{◌≡◌, pred, ◌+◌, ◌<◌, ◌≤◌, min, max};
 ghost use Rattle.network.specs.Distinct.{insert, distinct};
 ghost use Rattle.grid.specs.Tables.{table, padded};

@@ -1,5 +1,6 @@
 // Writes a job book (document 01, "Job book") from a list of numbers, five a run (document 02, C-15).
 #![tactic(auto)]
+
 ghost use Rattle.std.specs.Prelude.{◌≡◌, true, ◌∷◌, ◌+◌, ◌*◌, ◌≤◌, pos, length};
 ghost use Rattle.std.specs.Int.Signed.{le_z};
 ghost use Rattle.fields.specs.Bytes.{Wrote};

@@ -1,6 +1,7 @@
 // Routes on the lines of a grid: the walker along a route, its corners, and the pits of several routes. A line is named by its index
 // among the columns or the rows.
 #![tactic(auto)]
+
 ghost use Rattle.std.specs.Prelude.{◌≡◌, ◌||◌, map, ℕ, ◌+◌, ◌*◌, ◌/◌, ◌<◌, ◌≤◌, length, get_or, take};
 ghost use Rattle.network.specs.Lists.{All};
 ghost use Rattle.network.specs.Plane.{gap};
