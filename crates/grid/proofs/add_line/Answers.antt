@@ -16,4 +16,4 @@ pub returns : goal.returns
 returns c =
     line_put _ c.args.v c.requires _ _ c.position-at.ensures.0
     (elim c.if-at-count.branch [ then-at-count+else-lines-at w ↦ λ o p. w.if-lines-at.false p | else-at-count w ↦ λ o p. absurd (omega (arith, w)) ])
-    (elim c.if-count-lt16.branch as (λ _. c.if-count-lt16.lines ≡ padded 64 (put c.position-at.result c.args.v (take c.args.count c.args.lines.now))) [ then-count-lt16 w ↦ w.lines-is ∙ w.slip.ensures | else-count-lt16 w ↦ w.lines-is ∙ w.2.ensures ])
+    (elim c.if-count-lt16.branch as (λ _. c.if-count-lt16.lines ≡ padded 64 (put c.position-at.result c.args.v (take c.args.count c.args.lines.now))) [ then-count-lt16 w ↦ w.lines-is ∙ w.slip.ensures | else-count-lt16 w ↦ w.lines-is ∙ w.shift.ensures ])
