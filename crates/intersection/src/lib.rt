@@ -1,5 +1,6 @@
 // Which runs of a job meet, and the centre of each run's group.
 #![tactic(auto)]
+
 pub mod finder;
 pub mod sets;
 

@@ -1,6 +1,7 @@
 // Measures routes on a grid of at most 64 columns and 64 rows: marks at their corners and on their edges, the length of their union, and their pits. A
 // mark stands at row * 64 + column: of corners at the vertex itself, of edges at the vertex from which the edge goes to the right, or upwards.
 #![tactic(auto)]
+
 ghost use Rattle.std.specs.Prelude.{◌≡◌, ◌≤◌, ◌<◌, min, max, length};
 ghost use Rattle.network.specs.Grid.{Grid};
 ghost use Rattle.measure.specs.Marks.{direction_of, cell, Stretched, Finds, Ruled, Arrived};
