@@ -58,9 +58,17 @@ pub loop-i-preserved : goal.loop-i-preserved
 loop-i-preserved c =
     let l = c.loop-i in
     let a = c.args in
-    let more = row_trench_more a.right.now a.up.now a.widths.now a.height a.row l.i in (
+    let more = row_trench_more a.right.now a.up.now a.widths.now a.height a.row l.i in
+    let right : c.if-right-m-ne0.sum ≡ l.sum + cond (is_marked a.right.now (a.row * 64 + l.i)) (get_or a.widths.now l.i 0) 0 =
+    elim c.if-right-m-ne0.branch [
+      | then-right-m-ne0 w ↦ omega (arith, w, mark_counts a.right.now (a.row * 64 + l.i) (get_or a.widths.now l.i 0) w.if-right-m-ne0.true)
+      | else-right-m-ne0 w ↦ omega (arith, w, mark_counts_not a.right.now (a.row * 64 + l.i) (get_or a.widths.now l.i 0) w.if-right-m-ne0.false)
+    ] in (
       omega arith,
-      elim c.if-up-m-ne0.branch [ then-up-m-ne0 w ↦ omega (arith, w, more, (let it : let l = c.loop-i in let a = c.args in c.if-right-m-ne0.sum ≡ l.sum + cond (is_marked a.right.now (a.row * 64 + l.i)) (get_or a.widths.now l.i 0) 0 = let l = c.loop-i in let a = c.args in elim c.if-right-m-ne0.branch [ then-right-m-ne0 w ↦ omega (arith, w, mark_counts a.right.now (a.row * 64 + l.i) (get_or a.widths.now l.i 0) w.if-up-m-ne0.true) | else-right-m-ne0 w ↦ omega (arith, w, mark_counts_not a.right.now (a.row * 64 + l.i) (get_or a.widths.now l.i 0) w.if-up-m-ne0.false) ] in it), mark_counts a.up.now (a.row * 64 + l.i) a.height w.if-up-m-ne0.true) | else-up-m-ne0 w ↦ omega (arith, w, more, (let it : let l = c.loop-i in let a = c.args in c.if-right-m-ne0.sum ≡ l.sum + cond (is_marked a.right.now (a.row * 64 + l.i)) (get_or a.widths.now l.i 0) 0 = let l = c.loop-i in let a = c.args in elim c.if-right-m-ne0.branch [ then-right-m-ne0 w ↦ omega (arith, w, mark_counts a.right.now (a.row * 64 + l.i) (get_or a.widths.now l.i 0) w.if-up-m-ne0.true) | else-right-m-ne0 w ↦ omega (arith, w, mark_counts_not a.right.now (a.row * 64 + l.i) (get_or a.widths.now l.i 0) w.if-up-m-ne0.false) ] in it), mark_counts_not a.up.now (a.row * 64 + l.i) a.height w.if-up-m-ne0.false) ],
+      elim c.if-up-m-ne0.branch [
+        | then-up-m-ne0 w ↦ omega (arith, w, more, right, mark_counts a.up.now (a.row * 64 + l.i) a.height w.if-up-m-ne0.true)
+        | else-up-m-ne0 w ↦ omega (arith, w, more, right, mark_counts_not a.up.now (a.row * 64 + l.i) a.height w.if-up-m-ne0.false)
+      ],
     )
 
 pub returns : goal.returns
