@@ -116,7 +116,7 @@ module _ (grid : Grid) (runs : List Run) (xs ys : Side) (c leaves : ℕ) (g : Gr
   unfolding leaves_on leaf_on
   on_is d i k h l =
       has_pack (leaf_on (side_at xs ys d).first (side_at xs ys d).second leaves (line_of (first_at xs ys c d) (second_at xs ys c d) i)) (length runs) k h
-      ∙ ap₂ ◌&&◌ (S.is_IsLeaf k h) (covers_is d k i h l)
+      ∙ ap₂ ◌&&◌ (S.is_leaf k h) (covers_is d k i h l)
 
   -- ---- the set of an edge
 

@@ -1,0 +1,13 @@
+-- From i on the arrays hold the moves behind the vertex where the walk stands.
+use mathlib.Core.Path.{◌≡◌}
+use Prim.Native.Nat.{pred, ◌+◌, ◌-◌, ◌≤◌}
+use Rattle.table.specs.Frame.{group_of}
+use Rattle.table.proofs.Walking.{Held}
+use Rattle.table.proofs.trace.trace_of.Given as goal
+
+abbrev pub invariant-loop-i : goal.invariant-loop-i
+invariant-loop-i l =
+    Held (group_of l.cols l.rows l.g) l.work (pred l.g.w + pred l.g.h) l.a l.b l.steps l.shares l.t l.i × (l.count ≡ pred l.g.w + pred l.g.h) × (l.i ≤ l.count)
+
+abbrev pub decreases-loop-i : goal.decreases-loop-i
+decreases-loop-i l = l.i
