@@ -1,5 +1,6 @@
 // Figures of a whole job: the sum of its runs' distances, and of each run the meets figure and the number of its group's centre.
 #![tactic(auto)]
+
 ghost use Rattle.std.specs.Prelude.{◌≡◌, ℕ, ◌≤◌, ◌<◌, max, get_or, replicate};
 ghost use Rattle.network.specs.Lists.{sum};
 ghost use Rattle.network.specs.Plane.{gap, distance, ◌to◌};
