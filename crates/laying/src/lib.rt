@@ -1,5 +1,6 @@
 // The routes of all runs of a lease: its groups are laid one after the other, in the same work words.
 #![tactic(auto)]
+
 ghost use Rattle.std.specs.Prelude.{◌≡◌, List, [], ◌≤◌, ◌<◌, length, get_or};
 ghost use Rattle.network.specs.Plane.{Run};
 ghost use Rattle.table.specs.Side.{side_of};
