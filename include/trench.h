@@ -1,5 +1,5 @@
 /* The trench planner for C, the forecast of what it is to be lent, the writer of its jobs, the reader of its plans, and the choice
- * between two of them. Link target/staticlib/libtrench.a, which `rt staticlib trench` writes.
+ * between two of them. Link crates/trench/out/libtrench.a, which `rt lib` writes in crates/trench.
  *
  * Lengths and coordinates are in decimetres. Fields of both books are little-endian and not aligned; coordinates are 32-bit
  * two's complement. Each record is one byte of kind, then a body:

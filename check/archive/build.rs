@@ -1,4 +1,4 @@
-//! Links the archive that the variable TRENCH_ARCHIVE names (default: what `rt staticlib trench` writes), and the plain C
+//! Links the archive that the variable TRENCH_ARCHIVE names (default: what `rt lib` writes in crates/trench), and the plain C
 //! planner and reader of `bench/`, which `cc` compiles at -O3, the planner plain and tuned.
 
 use std::env;
@@ -10,7 +10,7 @@ fn main() {
     let out = PathBuf::from(env::var("OUT_DIR").expect("cargo sets it"));
     println!("cargo:rerun-if-env-changed=TRENCH_ARCHIVE");
     let archive =
-        env::var("TRENCH_ARCHIVE").map_or_else(|_| here.join("../../target/staticlib/libtrench.a"), PathBuf::from);
+        env::var("TRENCH_ARCHIVE").map_or_else(|_| here.join("../../crates/trench/out/libtrench.a"), PathBuf::from);
     let archive = archive.canonicalize().unwrap_or_else(|error| panic!("the archive {}: {error}", archive.display()));
     let copy = out.join("libtrench_archive_under_test.a");
     std::fs::copy(&archive, &copy).expect("the archive can be copied");

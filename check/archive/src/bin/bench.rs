@@ -161,7 +161,7 @@ fn benchmark(program: &str) -> bool {
 fn missing(program: &str) -> String {
     match program {
         "" => "No table program is named".to_string(),
-        name => format!("There is no program {name} (`rt check table_rounds` makes it)"),
+        name => format!("There is no program {name} (`rt run` in crates/table_rounds makes it)"),
     }
 }
 
