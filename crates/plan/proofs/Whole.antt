@@ -88,5 +88,7 @@ plan_written job numbers runs columns rows ns ms cs routes head fc fr t a h f =
 -- Manhattan routes have at most 127 corners each
 pub routes_few : (g : Grid) → length g.columns ≤ 64 → length g.rows ≤ 64 → (runs : List Run) (routes : List Route) → All TwoPoints runs
     → Routes g runs routes → All (λ c. length c ≤ 127) (map corners routes)
+routes_few g h k [] (route ∷ routes) two m = elim m [ ]
+routes_few g h k (run ∷ runs) [] two m = elim m [ ]
 routes_few g h k [] [] two m = tt
 routes_few g h k (run ∷ runs) (route ∷ routes) two m = (omega (arith, manhattan_few g run route two.0 m.0), routes_few g h k runs routes two.1 m.1)

@@ -1,5 +1,6 @@
 // The plan book: each record is written into the rest of the plan buffer behind the record before it. Only the kinds of document 02, C-16, are written.
 #![tactic(auto)]
+
 ghost use Rattle.std.specs.Prelude.{◌≡◌, true, ◌+◌, ◌*◌, ◌<◌, ◌≤◌, length, take};
 ghost use mathlib.Core.List.{map, flat_map};
 ghost use Rattle.fields.specs.Bytes.{Wrote};

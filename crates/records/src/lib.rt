@@ -1,5 +1,6 @@
 // The records of a plan book, read (document 01, "Plan book"; document 02, C-16).
 #![tactic(auto)]
+
 ghost use Rattle.std.specs.Prelude.{◌≡◌, true, cond, ◌≤◌, length};
 ghost use Rattle.job.specs.Fields.{word2};
 ghost use Rattle.plan.specs.Records.{route_size};

@@ -6,7 +6,7 @@ use Rattle.job_writer.proofs.Runs.{answers_next, answers_end}
 use Rattle.job_writer.proofs.runs_answer.Goals as goal
 
 pub loop-i-init : goal.loop-i-init
-loop-holds c = (omega arith, let e : c.args.count - 0 ≡ c.args.count = omega arith in rw e refl)
+loop-i-init c = (omega arith, let e : c.args.count - 0 ≡ c.args.count = omega arith in rw e refl)
 
 pub run_answer-answer-requires : goal.run_answer-answer-requires
 run_answer-answer-requires c = omega arith

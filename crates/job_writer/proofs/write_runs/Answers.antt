@@ -1,5 +1,4 @@
 use mathlib.Core.Path.{ap, ◌∙◌}
-use Prim.Native.Nat.{◌-◌}
 use native.Mathlib.Omega.{arith}
 use Rattle.job_writer.specs.Listed.{run_of}
 use Rattle.job_writer.proofs.Writing.{writing_all, next_held, next_room, writing_next, writing_end}
