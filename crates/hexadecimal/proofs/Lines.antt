@@ -7,8 +7,8 @@ use native.Mathlib.Omega.{arith}
 use borrow.Author.Tests.{eq-eqb, ne_eqb}
 use lib.ListN.{length, drop, get_or, drop_of_length-le}
 use lib.Seq.{drop-cons}
-use Rattle.io.proofs.Counting.{prefix_len_of_le}
-use Rattle.hex.specs.Lines.{place_in, Stands}
+use Rattle.hexadecimal.proofs.Counting.{prefix_len_of_le}
+use Rattle.hexadecimal.specs.Lines.{place_in, Stands}
 
 -- c stands there
 place_here : (c x : ℕ) (text : List ℕ) → x ≡ c → place_in c (x ∷ text) ≡ 0

@@ -9,8 +9,8 @@ use native.Mathlib.Omega.{arith}
 use borrow.Author.Tests.{le-leb, lt-leb}
 use lib.ListN.{length, take, drop, set, get_or, length-set}
 use lib.Seq.{take_all, length-take-le, paste, paste-zero, paste-suc}
-use Rattle.io.proofs.Counting.{prefix_len_of_le}
-use Rattle.hex.specs.Digits.{digit_of, bytes_of, Unhexed}
+use Rattle.hexadecimal.proofs.Counting.{prefix_len_of_le}
+use Rattle.hexadecimal.specs.Digits.{digit_of, bytes_of, Unhexed}
 
 -- ---- digits
 

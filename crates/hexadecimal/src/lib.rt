@@ -1,8 +1,9 @@
 // Lines of text and bytes in hexadecimal: how the test programs read their vectors.
 #![tactic(auto)]
+
 ghost use Rattle.std.specs.Prelude.{◌≡◌, ◌+◌, ◌*◌, ◌/◌, ◌<◌, ◌≤◌, min, length, get_or};
-ghost use Rattle.hex.specs.Digits.{digit_of, Unhexed};
-ghost use Rattle.hex.specs.Lines.{Stands};
+ghost use Rattle.hexadecimal.specs.Digits.{digit_of, Unhexed};
+ghost use Rattle.hexadecimal.specs.Lines.{Stands};
 
 pub fn least(a: usize, b: usize) -> usize
     ensures { result ≡ min a b }

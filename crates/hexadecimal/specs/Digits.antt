@@ -1,6 +1,6 @@
 -- The bytes that hexadecimal digits stand for.
 use Rattle.std.specs.Prelude.{◌≡◌, cond, ◌&&◌, List, [], ◌∷◌, ◌++◌, ℕ, ◌+◌, ◌-◌, ◌*◌, leb, length, take, drop}
-use Rattle.io.specs.Counts.{IsPrefixLen}
+use Rattle.hexadecimal.specs.Counts.{IsPrefixLen}
 
 -- what a digit stands for: 0 to 9, which have the codes 48 to 57, and a to f, which have 97 to 102; any other byte stands for 0
 unfoldable pub digit_of : ℕ → ℕ

@@ -1,6 +1,6 @@
 -- Where a byte stands in a text.
 use Rattle.std.specs.Prelude.{◌≡◌, true, false, List, [], ◌∷◌, ℕ, suc, ◌+◌, ◌≤◌, eqb, drop}
-use Rattle.io.specs.Counts.{IsPrefixLen}
+use Rattle.hexadecimal.specs.Counts.{IsPrefixLen}
 
 -- the first place at which c stands, or the end
 unfoldable pub place_in : ℕ → List ℕ → ℕ
