@@ -4,6 +4,7 @@
 // out, and the last. `differs` follows if reading the book anew tells a route otherwise, or its first or last corner, or if there is an answer past the
 // last one.
 #![tactic(auto)]
+
 ghost use Rattle.std.specs.Prelude.{◌≡◌, length};
 
 use book::{Answer, Figures, Route, Spot};
@@ -224,10 +225,8 @@ fn corners_of(book: &[u8], places: &[u32], i: usize) -> usize {
 }
 
 fn print_corners(screen: &mut Screen, book: &[u8], places: &[u32], i: usize, n: usize) {
-    let mut j: usize = 0;
-    while j < n {
+    for j in 0..n {
         print_spot(screen, book::corner_in(book, places, i, j));
-        j += 1;
     }
 }
 
@@ -267,13 +266,19 @@ fn print_routes(screen: &mut Screen, book: &[u8], places: &[u32], grouped: bool)
 fn print_book(screen: &mut Screen, book: &[u8], head: Head, places: &[u32]) {
     print_head(screen, head);
     let n = print_routes(screen, book, places, head.grouped);
-    print_differs(screen, is_head(book::figures_of(book), head) & ends_at(book, places, n));
+    print_differs(
+        screen,
+        is_head(book::figures_of(book), head) & ends_at(book, places, n),
+    );
 }
 
 fn print_refusal(screen: &mut Screen, book: &[u8], refusal: Refusal, places: &[u32]) {
     print_number(screen, refusal::number(refusal) as u64);
     print_number(screen, refusal::place(refusal) as u64);
-    print_differs(screen, no_figures(book::figures_of(book)) & ends_at(book, places, 0));
+    print_differs(
+        screen,
+        no_figures(book::figures_of(book)) & ends_at(book, places, 0),
+    );
 }
 
 fn read_book(screen: &mut Screen, book: &[u8]) {

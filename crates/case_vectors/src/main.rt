@@ -1,6 +1,7 @@
 // Prints the case of every two boxes with corners on a grid of 4 x 4 points: a line for each of the 100 boxes, in it a sign for each of them. The stored signs are
 // those of a plain enumeration: all points that lie in both boxes are listed.
 #![tactic(auto)]
+
 use console::{Output, Screen};
 use intersection::{Box, Case};
 use std::io;
@@ -45,10 +46,8 @@ fn print_pair(screen: &mut Screen, a: Box, digits: u32) {
 }
 
 fn print_pairs(screen: &mut Screen, a: Box) {
-    let mut digits: u32 = 0;
-    while digits < 256 {
+    for digits in 0..256 {
         print_pair(screen, a, digits);
-        digits += 1;
     }
 }
 
@@ -63,10 +62,8 @@ fn print_line(screen: &mut Screen, digits: u32) {
 
 fn main(rt: HostRuntime) -> io::Result<()> {
     let mut screen = Output::new(rt.stdout());
-    let mut digits: u32 = 0;
-    while digits < 256 {
+    for digits in 0..256 {
         print_line(&mut screen, digits);
-        digits += 1;
     }
     screen.end()
 }

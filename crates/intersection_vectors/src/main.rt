@@ -3,6 +3,7 @@
 // group is no star. The stored figures are those of a plain enumeration: meets by listing all grid edges in each box, groups by joining runs that meet until
 // nothing changes, the centre of a group by trying every run of it.
 #![tactic(auto)]
+
 ghost use Rattle.std.specs.Prelude.{◌≤◌, ◌<◌, length};
 ghost use Rattle.intersection_vectors.specs.Text.{Within};
 
@@ -152,20 +153,16 @@ fn print_figure(screen: &mut Screen, n: u64) {
 fn print_meets(screen: &mut Screen, neighbours: &[u32; 32], n: usize)
     requires { n ≤ 32 }
 {
-    let mut i: usize = 0;
-    while i < n {
+    for i in 0..n {
         print_figure(screen, intersection::meets_of(neighbours, i) as u64);
-        i += 1;
     }
 }
 
 fn print_centres(screen: &mut Screen, centres: &[usize; 32], n: usize)
     requires { n ≤ 32 }
 {
-    let mut i: usize = 0;
-    while i < n {
+    for i in 0..n {
         print_figure(screen, centres[i] as u64);
-        i += 1;
     }
 }
 
@@ -185,12 +182,22 @@ fn print_found(screen: &mut Screen, found: Centres, n: usize)
     }
     let centres = found.centres;
     screen.put(b" groups");
-    print_figure(screen, intersection::finder::count_groups(&centres, n) as u64);
+    print_figure(
+        screen,
+        intersection::finder::count_groups(&centres, n) as u64,
+    );
     screen.put(b" centres");
     print_centres(screen, &centres, n);
 }
 
-fn print_job(screen: &mut Screen, x1: &[u32; 32], y1: &[u32; 32], x2: &[u32; 32], y2: &[u32; 32], n: usize)
+fn print_job(
+    screen: &mut Screen,
+    x1: &[u32; 32],
+    y1: &[u32; 32],
+    x2: &[u32; 32],
+    y2: &[u32; 32],
+    n: usize,
+)
     requires { n ≤ 32 }
 {
     let columns = grid::axis_of(x1, x2, n);

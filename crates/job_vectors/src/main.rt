@@ -1,6 +1,7 @@
 // Prints what reading says of each job on standard input. A line there is a label, a space and the job's bytes in hexadecimal.
 // A refusal prints its number and place; an accepted job prints 0 0, its number, how many runs it has, and each run.
 #![tactic(auto)]
+
 ghost use Rattle.std.specs.Prelude.{◌<◌};
 
 use console::{Output, Screen};
@@ -39,10 +40,8 @@ fn print_run(screen: &mut Screen, found: Job, k: usize)
 
 fn print_runs(screen: &mut Screen, found: Job) {
     let count = hexadecimal::least(found.count, 32);
-    let mut k: usize = 0;
-    while k < count {
+    for k in 0..count {
         print_run(screen, found, k);
-        k = k + 1;
     }
 }
 

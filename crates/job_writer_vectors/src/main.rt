@@ -2,6 +2,7 @@
 // the job number (4), and the numbers of the list (4 each). Prints the label, then 0 0 and the book's bytes, or the refusal's number and place; and `changed`
 // if a byte of the buffer is not as it is due.
 #![tactic(auto)]
+
 ghost use Rattle.std.specs.Prelude.{◌≡◌, ◌≤◌, length};
 
 use console::{Output, Screen};
@@ -23,10 +24,8 @@ fn print_byte(screen: &mut Screen, b: u8) {
 
 fn print_bytes(screen: &mut Screen, bytes: &[u8]) {
     print(screen, b" 0 0 ");
-    let mut i: usize = 0;
-    while i < bytes.len() {
+    for i in 0..bytes.len() {
         print_byte(screen, bytes[i]);
-        i += 1;
     }
 }
 
@@ -53,10 +52,8 @@ fn numbers_of(bytes: &[u8], numbers: &mut [i32]) -> usize
     ensures { result ≤ length numbers.new }
 {
     let n = hexadecimal::least(bytes.len() / 4, numbers.len());
-    let mut k: usize = 0;
-    while k < n {
+    for k in 0..n {
         numbers[k] = job::signed_of(job::le32(bytes, 4 * k));
-        k += 1;
     }
     n
 }

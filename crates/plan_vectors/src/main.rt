@@ -1,5 +1,6 @@
 // Prints plans of a few routes: each route's corners in line indexes, the pits, and the bytes that are written into dirty buffers.
 #![tactic(auto)]
+
 ghost use Rattle.std.specs.Prelude.{◌≡◌, true, map, ◌<◌, ◌≤◌, length, take};
 ghost use Rattle.network.specs.Graph.{below};
 ghost use Rattle.network.specs.Steps.{Fits};
@@ -58,10 +59,8 @@ fn add(routes: Routes, letters: &[u8], x1: u32, y1: u32, x2: u32, y2: u32) -> Ro
         return routes;
     }
     let mut steps = routes.steps;
-    let mut i: usize = 0;
-    while i < n {
+    for i in 0..n {
         steps[k * 128 + i] = step_of(letters[i]);
-        i += 1;
     }
     let mut from_columns = routes.x1;
     let mut from_rows = routes.y1;
@@ -104,12 +103,10 @@ fn on_grid(track: Track, steps: &[u8]) -> bool
         return false;
     }
     let mut across: usize = 0;
-    let mut i: usize = 0;
-    while i < count {
+    for i in 0..count {
         if steps[i] == 0 {
             across += 1;
         }
-        i += 1;
     }
     fits(track.right, track.start.column, across) & fits(track.up, track.start.row, count - across)
 }
@@ -183,12 +180,10 @@ fn print_routes(
     requires { Stored steps.now 128 (tracks_of x1.now y1.now x2.now y2.now) count }
 {
     let n = hexadecimal::least(count, 3);
-    let mut i: usize = 0;
-    while i < n {
+    for i in 0..n {
         let track = route::track_of(x1[i], y1[i], x2[i], y2[i]);
         let from = i * 128;
         print_corners(screen, track, &steps[from..], corners[i]);
-        i += 1;
     }
 }
 
@@ -198,11 +193,9 @@ fn digit(n: u8) -> u8 {
 }
 
 fn print_hex(screen: &mut Screen, bytes: &[u8]) {
-    let mut i: usize = 0;
-    while i < bytes.len() {
+    for i in 0..bytes.len() {
         let b = bytes[i];
         print(screen, &[digit(b / 16), digit(b)]);
-        i += 1;
     }
     print(screen, b"\n");
 }
@@ -216,10 +209,8 @@ fn wide(b: u8) -> u64
 // A digest of the bytes: each counts with its place.
 fn digest(bytes: &[u8]) -> u64 {
     let mut sum: u64 = 0;
-    let mut i: usize = 0;
-    while i < bytes.len() {
+    for i in 0..bytes.len() {
         sum = (sum * 257 + wide(bytes[i]) + 1) % 4294967291;
-        i += 1;
     }
     sum
 }
@@ -328,7 +319,8 @@ fn show_stored(
     let mut figures = head;
     figures.pits = pits as u32;
     print_plans(
-        screen, figures, numbers, meets, centres, &corners, steps, x1, y1, x2, y2, count, columns, rows,
+        screen, figures, numbers, meets, centres, &corners, steps, x1, y1, x2, y2, count, columns,
+        rows,
     );
 }
 
@@ -351,7 +343,8 @@ fn show(
     let x2 = routes.x2;
     let y2 = routes.y2;
     show_stored(
-        screen, head,
+        screen,
+        head,
         numbers,
         meets,
         centres,
@@ -411,7 +404,9 @@ fn job_seven(screen: &mut Screen) {
         pits: 0,
         last: 1,
     };
-    show(screen, head, &numbers, &meets, &centres, routes, &columns, &rows);
+    show(
+        screen, head, &numbers, &meets, &centres, routes, &columns, &rows,
+    );
 }
 
 // One run, from end to end of the ranges.
@@ -431,7 +426,9 @@ fn one_run(screen: &mut Screen) {
         pits: 0,
         last: 1,
     };
-    show(screen, head, &numbers, &meets, &numbers, routes, &columns, &rows);
+    show(
+        screen, head, &numbers, &meets, &numbers, routes, &columns, &rows,
+    );
 }
 
 // A job without runs: a head and an end.
@@ -450,7 +447,9 @@ fn no_runs(screen: &mut Screen) {
         pits: 0,
         last: 0,
     };
-    show(screen, head, &numbers, &meets, &numbers, routes, &columns, &rows);
+    show(
+        screen, head, &numbers, &meets, &numbers, routes, &columns, &rows,
+    );
 }
 
 // Three runs to the left, downwards and both, with a turn at every vertex and with none, in two groups; the upper two bytes of figures are left out.
@@ -485,7 +484,9 @@ fn all_ways(screen: &mut Screen) {
         pits: 0,
         last: 65538,
     };
-    show(screen, head, &numbers, &meets, &centres, routes, &columns, &rows);
+    show(
+        screen, head, &numbers, &meets, &centres, routes, &columns, &rows,
+    );
 }
 
 fn counting(from: u32) -> [u32; 32]
@@ -524,8 +525,7 @@ fn longest(screen: &mut Screen) {
     let meets = [31u32; 32];
     let centres = [9968u32; 32];
     let mut routes = no_routes();
-    let mut i: usize = 0;
-    while i < 16 {
+    for i in 0..16 {
         let one = add(
             routes,
             b"rcrcrcrcrcrcrcrcrcrcrcrcrcrcrcrcrcrcrcrcrcrcrcrcrcrcrcrcrcrcrcrcrcrcrcrcrcrcrcrcrcrcrcrcrcrcrcrcrcrcrcrcrcrcrcrcrcrcrcrcrcrcrc",
@@ -543,7 +543,6 @@ fn longest(screen: &mut Screen) {
             63,
         );
         routes = two;
-        i += 1;
     }
     let head = Head {
         grouped: true,
@@ -554,7 +553,9 @@ fn longest(screen: &mut Screen) {
         pits: 0,
         last: 1,
     };
-    show(screen, head, &numbers, &meets, &centres, routes, &columns, &rows);
+    show(
+        screen, head, &numbers, &meets, &centres, routes, &columns, &rows,
+    );
 }
 
 // The pits of a route along row 2, of one down column 3, and of a third.

@@ -5,6 +5,7 @@
 // Of the seven calls four are of `plan`, lent just the forecast, more of both, a word less and a byte less; two of `plan_for_map`, lent the forecast's
 // bytes and one less; and the last of `plan_in`, lent just the forecast.
 #![tactic(auto)]
+
 ghost use Rattle.std.specs.Prelude.{◌≡◌, ◌≤◌, length};
 
 use console::{Output, Screen};
@@ -42,13 +43,11 @@ fn refusal_of(code: i32) -> u64 {
 
 // Whether the first words, as many as are cleared, are 0, and the others are 3.
 fn words_kept(work: &[u32], cleared: usize) -> bool {
-    let mut i: usize = 0;
-    while i < work.len() {
+    for i in 0..work.len() {
         let due: u32 = if i < cleared { 0 } else { 3 };
         if work[i] != due {
             return false;
         }
-        i += 1;
     }
     true
 }
@@ -156,7 +155,15 @@ fn code_kept(screen: &mut Screen, job: &[u8], code: i32, out: &[u8]) -> bool {
 
 // ---- the calls: of 16,400 words of 3 and 36,926 bytes of 7 the first are lent, and a plan clears so many words
 
-fn call_on(screen: &mut Screen, job: &[u8], words: usize, bytes: usize, cleared: usize, work: &mut [u32], out: &mut [u8])
+fn call_on(
+    screen: &mut Screen,
+    job: &[u8],
+    words: usize,
+    bytes: usize,
+    cleared: usize,
+    work: &mut [u32],
+    out: &mut [u8],
+)
     requires { (words ≤ length work.old) × (bytes ≤ length out.old) }
 {
     print(screen, b" |");
@@ -196,7 +203,14 @@ fn map_call(screen: &mut Screen, job: &[u8], bytes: usize)
     map_call_on(screen, job, bytes, &mut out);
 }
 
-fn lent_call_on(screen: &mut Screen, job: &[u8], words: usize, bytes: usize, work: &mut [u32], out: &mut [u8])
+fn lent_call_on(
+    screen: &mut Screen,
+    job: &[u8],
+    words: usize,
+    bytes: usize,
+    work: &mut [u32],
+    out: &mut [u8],
+)
     requires { (words ≤ length work.old) × (bytes ≤ length out.old) }
 {
     print(screen, b" |");
@@ -241,7 +255,12 @@ fn try_job(screen: &mut Screen, job: &[u8]) {
             print(screen, b" needs");
             print_number(screen, words as u64);
             print_number(screen, bytes as u64);
-            calls(screen, job, hexadecimal::least(words, 16384), hexadecimal::least(bytes, 36886));
+            calls(
+                screen,
+                job,
+                hexadecimal::least(words, 16384),
+                hexadecimal::least(bytes, 36886),
+            );
         }
         Foretold::Refused(refusal) => {
             print(screen, b" refused");

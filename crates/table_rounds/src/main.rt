@@ -8,6 +8,7 @@
 //     10    64 columns, each three words: leaves on it, leaves on it and on the line before it, length from that line modulo 2,000,001
 //     778   64 rows, the same
 #![tactic(auto)]
+
 ghost use Rattle.std.specs.Prelude.{◌≡◌, List, ℕ, ◌+◌, ◌≤◌, ◌<◌, length};
 ghost use Rattle.table.specs.Frame.{line_in, group_of};
 ghost use Rattle.table.specs.Rule.{Fit};

@@ -1,6 +1,7 @@
 // Prints the listing of each plan on standard input, then the text of every refusal and of some choices. A line of the input is a label, a space and the plan's bytes
 // in hexadecimal. It prints the label and the length of the text, the text, a bar, and then as much of the text as 40 bytes have room for, and a bar.
 #![tactic(auto)]
+
 use console::{Output, Screen};
 use refusal::Refusal;
 use std::io;
