@@ -4,58 +4,60 @@
 // out, and the last. `differs` follows if reading the book anew tells a route otherwise, or its first or last corner, or if there is an answer past the
 // last one.
 #![tactic(auto)]
+
 ghost use Rattle.std.specs.Prelude.{◌≡◌, length};
 
 use book::{Answer, Figures, Route, Spot};
-use libc::{STDIN_FILENO, STDOUT_FILENO};
+use console::{Output, Screen};
 use plan::Head;
 use refusal::Refusal;
+use std::io;
 
-fn print(words: &[u8]) {
-    io::write_all(STDOUT_FILENO, words);
+fn print(screen: &mut Screen, words: &[u8]) {
+    screen.put(words);
 }
 
-fn print_number(n: u64) {
-    print(b" ");
-    io::print_decimal(STDOUT_FILENO, n);
+fn print_number(screen: &mut Screen, n: u64) {
+    print(screen, b" ");
+    screen.put_decimal(n);
 }
 
 // A coordinate in decimetres. Minus the least word is no word, so 1 is added behind the cast.
-fn print_coordinate(c: i32) {
+fn print_coordinate(screen: &mut Screen, c: i32) {
     if c < 0 {
-        print(b" -");
-        io::print_decimal(STDOUT_FILENO, (-1 - c) as u64 + 1);
+        print(screen, b" -");
+        screen.put_decimal((-1 - c) as u64 + 1);
     } else {
-        print_number(c as u64);
+        print_number(screen, c as u64);
     }
 }
 
-fn print_head(head: Head) {
-    print(b" 0 0 job");
-    print_number(head.job as u64);
-    print(b" runs");
-    print_number(head.runs as u64);
-    print(b" trench");
-    print_number(head.trench as u64);
-    print(b" saved");
-    print_number(head.saved as u64);
-    print(b" pits");
-    print_number(head.pits as u64);
+fn print_head(screen: &mut Screen, head: Head) {
+    print(screen, b" 0 0 job");
+    print_number(screen, head.job as u64);
+    print(screen, b" runs");
+    print_number(screen, head.runs as u64);
+    print(screen, b" trench");
+    print_number(screen, head.trench as u64);
+    print(screen, b" saved");
+    print_number(screen, head.saved as u64);
+    print(screen, b" pits");
+    print_number(screen, head.pits as u64);
     if head.grouped {
-        print(b" groups");
+        print(screen, b" groups");
     } else {
-        print(b" centre");
+        print(screen, b" centre");
     }
-    print_number(head.last as u64);
+    print_number(screen, head.last as u64);
 }
 
-fn print_centre(grouped: bool, centre: u32) {
+fn print_centre(screen: &mut Screen, grouped: bool, centre: u32) {
     if grouped {
-        print_number(centre as u64);
+        print_number(screen, centre as u64);
     }
 }
 
-fn print_route(route: Route, grouped: bool) {
+fn print_route(screen: &mut Screen, route: Route, grouped: bool) {
     match route {
         Route::Found {
             number,
@@ -63,22 +65,22 @@ fn print_route(route: Route, grouped: bool) {
             corners,
             centre,
         } => {
-            print(b" |");
-            print_number(number as u64);
-            print_number(meets as u64);
-            print_centre(grouped, centre);
-            print_number(corners as u64);
+            print(screen, b" |");
+            print_number(screen, number as u64);
+            print_number(screen, meets as u64);
+            print_centre(screen, grouped, centre);
+            print_number(screen, corners as u64);
         }
         Route::Nothing => {}
     }
 }
 
-fn print_spot(spot: Spot) {
+fn print_spot(screen: &mut Screen, spot: Spot) {
     match spot {
         Spot::Found { x, y } => {
-            print(b",");
-            print_coordinate(x);
-            print_coordinate(y);
+            print(screen, b",");
+            print_coordinate(screen, x);
+            print_coordinate(screen, y);
         }
         Spot::Nothing => {}
     }
@@ -202,9 +204,9 @@ fn agrees(book: &[u8], places: &[u32], i: usize, n: usize) -> bool {
     first & last & no_corner_at(book, places, i, 18446744073709551615)
 }
 
-fn print_differs(same: bool) {
+fn print_differs(screen: &mut Screen, same: bool) {
     if !same {
-        print(b" differs");
+        print(screen, b" differs");
     }
 }
 
@@ -222,85 +224,89 @@ fn corners_of(book: &[u8], places: &[u32], i: usize) -> usize {
     j
 }
 
-fn print_corners(book: &[u8], places: &[u32], i: usize, n: usize) {
-    let mut j: usize = 0;
-    while j < n {
-        print_spot(book::corner_in(book, places, i, j));
-        j += 1;
+fn print_corners(screen: &mut Screen, book: &[u8], places: &[u32], i: usize, n: usize) {
+    for j in 0..n {
+        print_spot(screen, book::corner_in(book, places, i, j));
     }
 }
 
 // The corners of route i, which has n.
-fn print_spots(book: &[u8], places: &[u32], i: usize, n: usize) {
+fn print_spots(screen: &mut Screen, book: &[u8], places: &[u32], i: usize, n: usize) {
     if n <= 8 {
-        print_corners(book, places, i, n);
+        print_corners(screen, book, places, i, n);
     } else {
-        print_corners(book, places, i, 2);
-        print(b",");
-        print_number((n - 3) as u64);
-        print(b" more");
-        print_spot(book::corner_in(book, places, i, n - 1));
+        print_corners(screen, book, places, i, 2);
+        print(screen, b",");
+        print_number(screen, (n - 3) as u64);
+        print(screen, b" more");
+        print_spot(screen, book::corner_in(book, places, i, n - 1));
     }
 }
 
-fn print_route_at(book: &[u8], places: &[u32], i: usize, grouped: bool) {
-    print_route(book::route_in(book, places, i), grouped);
+fn print_route_at(screen: &mut Screen, book: &[u8], places: &[u32], i: usize, grouped: bool) {
+    print_route(screen, book::route_in(book, places, i), grouped);
     let n = corners_of(book, places, i);
-    print_spots(book, places, i, n);
-    print_differs(agrees(book, places, i, n));
+    print_spots(screen, book, places, i, n);
+    print_differs(screen, agrees(book, places, i, n));
 }
 
 // Prints the routes up to the first that is not there, and tells how many they are.
-fn print_routes(book: &[u8], places: &[u32], grouped: bool) -> usize {
+fn print_routes(screen: &mut Screen, book: &[u8], places: &[u32], grouped: bool) -> usize {
     let mut i: usize = 0;
     while i < book.len() {
         if no_route(book::route_in(book, places, i)) {
             return i;
         }
-        print_route_at(book, places, i, grouped);
+        print_route_at(screen, book, places, i, grouped);
         i += 1;
     }
     i
 }
 
-fn print_book(book: &[u8], head: Head, places: &[u32]) {
-    print_head(head);
-    let n = print_routes(book, places, head.grouped);
-    print_differs(is_head(book::figures_of(book), head) & ends_at(book, places, n));
+fn print_book(screen: &mut Screen, book: &[u8], head: Head, places: &[u32]) {
+    print_head(screen, head);
+    let n = print_routes(screen, book, places, head.grouped);
+    print_differs(
+        screen,
+        is_head(book::figures_of(book), head) & ends_at(book, places, n),
+    );
 }
 
-fn print_refusal(book: &[u8], refusal: Refusal, places: &[u32]) {
-    print_number(refusal::number(refusal) as u64);
-    print_number(refusal::place(refusal) as u64);
-    print_differs(no_figures(book::figures_of(book)) & ends_at(book, places, 0));
+fn print_refusal(screen: &mut Screen, book: &[u8], refusal: Refusal, places: &[u32]) {
+    print_number(screen, refusal::number(refusal) as u64);
+    print_number(screen, refusal::place(refusal) as u64);
+    print_differs(
+        screen,
+        no_figures(book::figures_of(book)) & ends_at(book, places, 0),
+    );
 }
 
-fn read_book(book: &[u8]) {
+fn read_book(screen: &mut Screen, book: &[u8]) {
     let reading = book::read(book);
     let answer = reading.answer;
     let head = reading.head;
     let places = reading.places;
     match answer {
-        Answer::Accepted => print_book(book, head, &places),
-        Answer::Refused(refusal) => print_refusal(book, refusal, &places),
+        Answer::Accepted => print_book(screen, book, head, &places),
+        Answer::Refused(refusal) => print_refusal(screen, book, refusal, &places),
     }
-    print(b"\n");
+    print(screen, b"\n");
 }
 
-fn read_line(line: &[u8]) {
-    let space = hex::place_of(line, b' ', 0);
-    let digits = hex::least(space + 1, line.len());
-    print(&line[..space]);
-    let mut bytes = io::large_buffer();
-    let n = hex::unhex(&line[digits..], &mut bytes);
-    read_book(&bytes[..n]);
+fn read_line(screen: &mut Screen, line: &[u8]) {
+    let space = hexadecimal::place_of(line, b' ', 0);
+    let digits = hexadecimal::least(space + 1, line.len());
+    print(screen, &line[..space]);
+    let mut bytes = console::large_buffer();
+    let n = hexadecimal::unhex(&line[digits..], &mut bytes);
+    read_book(screen, &bytes[..n]);
 }
 
-fn read_lines(lines: &[u8]) {
+fn read_lines(screen: &mut Screen, lines: &[u8]) {
     let mut from: usize = 0;
     while from < lines.len() {
-        let end = hex::place_of(lines, b'\n', from);
-        read_line(&lines[from..end]);
+        let end = hexadecimal::place_of(lines, b'\n', from);
+        read_line(screen, &lines[from..end]);
         from = end + 1;
     }
 }
@@ -312,8 +318,10 @@ fn buffer() -> [u8; 262144]
     [0; 262144]
 }
 
-fn main() {
+fn main(rt: HostRuntime) -> io::Result<()> {
     let mut lines = buffer();
-    let n = io::read_full(STDIN_FILENO, &mut lines);
-    read_lines(&lines[..n]);
+    let n = console::read_full(&mut rt.stdin(), &mut lines)?;
+    let mut screen = Output::new(rt.stdout());
+    read_lines(&mut screen, &lines[..n]);
+    screen.end()
 }

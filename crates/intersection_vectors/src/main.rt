@@ -3,11 +3,13 @@
 // group is no star. The stored figures are those of a plain enumeration: meets by listing all grid edges in each box, groups by joining runs that meet until
 // nothing changes, the centre of a group by trying every run of it.
 #![tactic(auto)]
+
 ghost use Rattle.std.specs.Prelude.{◌≤◌, ◌<◌, length};
 ghost use Rattle.intersection_vectors.specs.Text.{Within};
 
+use console::{Output, Screen};
 use intersection::finder::Centres;
-use libc::STDOUT_FILENO;
+use std::io;
 
 // A number of the text, and the place behind it.
 #[derive(Clone, Copy)]
@@ -143,28 +145,24 @@ fn job_at(text: &[u8], at: usize) -> Job
     }
 }
 
-fn print_figure(n: u64) {
-    io::write_all(STDOUT_FILENO, b" ");
-    io::print_decimal(STDOUT_FILENO, n);
+fn print_figure(screen: &mut Screen, n: u64) {
+    screen.put(b" ");
+    screen.put_decimal(n);
 }
 
-fn print_meets(neighbours: &[u32; 32], n: usize)
+fn print_meets(screen: &mut Screen, neighbours: &[u32; 32], n: usize)
     requires { n ≤ 32 }
 {
-    let mut i: usize = 0;
-    while i < n {
-        print_figure(intersection::meets_of(neighbours, i) as u64);
-        i += 1;
+    for i in 0..n {
+        print_figure(screen, intersection::meets_of(neighbours, i) as u64);
     }
 }
 
-fn print_centres(centres: &[usize; 32], n: usize)
+fn print_centres(screen: &mut Screen, centres: &[usize; 32], n: usize)
     requires { n ≤ 32 }
 {
-    let mut i: usize = 0;
-    while i < n {
-        print_figure(centres[i] as u64);
-        i += 1;
+    for i in 0..n {
+        print_figure(screen, centres[i] as u64);
     }
 }
 
@@ -175,38 +173,48 @@ fn centres_of(x1: &[u32; 32], y1: &[u32; 32], x2: &[u32; 32], y2: &[u32; 32], n:
     intersection::finder::centres_of(&neighbours, n)
 }
 
-fn print_found(found: Centres, n: usize)
+fn print_found(screen: &mut Screen, found: Centres, n: usize)
     requires { n ≤ 32 }
 {
     if !found.stars {
-        io::write_all(STDOUT_FILENO, b" centres none");
+        screen.put(b" centres none");
         return;
     }
     let centres = found.centres;
-    io::write_all(STDOUT_FILENO, b" groups");
-    print_figure(intersection::finder::count_groups(&centres, n) as u64);
-    io::write_all(STDOUT_FILENO, b" centres");
-    print_centres(&centres, n);
+    screen.put(b" groups");
+    print_figure(
+        screen,
+        intersection::finder::count_groups(&centres, n) as u64,
+    );
+    screen.put(b" centres");
+    print_centres(screen, &centres, n);
 }
 
-fn print_job(x1: &[u32; 32], y1: &[u32; 32], x2: &[u32; 32], y2: &[u32; 32], n: usize)
+fn print_job(
+    screen: &mut Screen,
+    x1: &[u32; 32],
+    y1: &[u32; 32],
+    x2: &[u32; 32],
+    y2: &[u32; 32],
+    n: usize,
+)
     requires { n ≤ 32 }
 {
     let columns = grid::axis_of(x1, x2, n);
     let rows = grid::axis_of(y1, y2, n);
     let neighbours = intersection::neighbours(x1, y1, x2, y2, n);
-    io::write_all(STDOUT_FILENO, b"columns ");
-    io::print_decimal(STDOUT_FILENO, columns.count as u64);
-    io::write_all(STDOUT_FILENO, b" rows ");
-    io::print_decimal(STDOUT_FILENO, rows.count as u64);
-    io::write_all(STDOUT_FILENO, b" meets");
-    print_meets(&neighbours, n);
-    print_found(centres_of(x1, y1, x2, y2, n), n);
-    io::write_all(STDOUT_FILENO, b"\n");
+    screen.put(b"columns ");
+    screen.put_decimal(columns.count as u64);
+    screen.put(b" rows ");
+    screen.put_decimal(rows.count as u64);
+    screen.put(b" meets");
+    print_meets(screen, &neighbours, n);
+    print_found(screen, centres_of(x1, y1, x2, y2, n), n);
+    screen.put(b"\n");
 }
 
 // Prints the job at a place, and answers the place behind it.
-fn step(text: &[u8], at: usize) -> usize
+fn step(screen: &mut Screen, text: &[u8], at: usize) -> usize
     requires { at ≤ length text.now }
     ensures { Within at result text.now }
 {
@@ -215,15 +223,15 @@ fn step(text: &[u8], at: usize) -> usize
     let y1 = job.y1;
     let x2 = job.x2;
     let y2 = job.y2;
-    print_job(&x1, &y1, &x2, &y2, job.count);
+    print_job(screen, &x1, &y1, &x2, &y2, job.count);
     skip(text, job.next)
 }
 
 // Prints one job after the other, as long as there is more text.
-fn print_jobs(text: &[u8]) {
+fn print_jobs(screen: &mut Screen, text: &[u8]) {
     let mut at = skip(text, 0);
     while at < text.len() {
-        let next = step(text, at);
+        let next = step(screen, text, at);
         if next <= at {
             return;
         }
@@ -231,8 +239,10 @@ fn print_jobs(text: &[u8]) {
     }
 }
 
-fn main() {
-    let mut text = io::large_buffer();
-    let n = io::read_full(0, &mut text);
-    print_jobs(&text[..n]);
+fn main(rt: HostRuntime) -> io::Result<()> {
+    let mut text = console::large_buffer();
+    let n = console::read_full(&mut rt.stdin(), &mut text)?;
+    let mut screen = Output::new(rt.stdout());
+    print_jobs(&mut screen, &text[..n]);
+    screen.end()
 }

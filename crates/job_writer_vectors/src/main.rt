@@ -2,30 +2,30 @@
 // the job number (4), and the numbers of the list (4 each). Prints the label, then 0 0 and the book's bytes, or the refusal's number and place; and `changed`
 // if a byte of the buffer is not as it is due.
 #![tactic(auto)]
+
 ghost use Rattle.std.specs.Prelude.{◌≡◌, ◌≤◌, length};
 
+use console::{Output, Screen};
 use job_writer::Outcome;
-use libc::{STDIN_FILENO, STDOUT_FILENO};
+use std::io;
 
-fn print(text: &[u8]) {
-    io::write_all(STDOUT_FILENO, text);
+fn print(screen: &mut Screen, text: &[u8]) {
+    screen.put(text);
 }
 
-fn print_number(n: u64) {
-    print(b" ");
-    io::print_decimal(STDOUT_FILENO, n);
+fn print_number(screen: &mut Screen, n: u64) {
+    print(screen, b" ");
+    screen.put_decimal(n);
 }
 
-fn print_byte(b: u8) {
-    io::print_hex(STDOUT_FILENO, b as u64, 2);
+fn print_byte(screen: &mut Screen, b: u8) {
+    screen.put_byte(b);
 }
 
-fn print_bytes(bytes: &[u8]) {
-    print(b" 0 0 ");
-    let mut i: usize = 0;
-    while i < bytes.len() {
-        print_byte(bytes[i]);
-        i += 1;
+fn print_bytes(screen: &mut Screen, bytes: &[u8]) {
+    print(screen, b" 0 0 ");
+    for i in 0..bytes.len() {
+        print_byte(screen, bytes[i]);
     }
 }
 
@@ -41,9 +41,9 @@ fn kept(out: &[u8], from: usize) -> bool {
     true
 }
 
-fn print_kept(out: &[u8], from: usize) {
+fn print_kept(screen: &mut Screen, out: &[u8], from: usize) {
     if !kept(out, from) {
-        print(b" changed");
+        print(screen, b" changed");
     }
 }
 
@@ -51,31 +51,29 @@ fn print_kept(out: &[u8], from: usize) {
 fn numbers_of(bytes: &[u8], numbers: &mut [i32]) -> usize
     ensures { result ≤ length numbers.new }
 {
-    let n = hex::least(bytes.len() / 4, numbers.len());
-    let mut k: usize = 0;
-    while k < n {
+    let n = hexadecimal::least(bytes.len() / 4, numbers.len());
+    for k in 0..n {
         numbers[k] = job::signed_of(job::le32(bytes, 4 * k));
-        k += 1;
     }
     n
 }
 
 // Every byte of the buffer is 7 before the call, which is lent the first of them.
-fn try_list(number: u32, runs: &[i32], out: &mut [u8], room: usize) {
-    let end = hex::least(room, out.len());
+fn try_list(screen: &mut Screen, number: u32, runs: &[i32], out: &mut [u8], room: usize) {
+    let end = hexadecimal::least(room, out.len());
     match job_writer::write(number, runs, &mut out[..end]) {
         Outcome::Written(length) => {
-            let n = hex::least(length, out.len());
-            print_bytes(&out[..n]);
-            print_kept(out, n);
+            let n = hexadecimal::least(length, out.len());
+            print_bytes(screen, &out[..n]);
+            print_kept(screen, out, n);
         }
         Outcome::Refused(refusal) => {
-            print_number(refusal::number(refusal) as u64);
-            print_number(refusal::place(refusal) as u64);
-            print_kept(out, 0);
+            print_number(screen, refusal::number(refusal) as u64);
+            print_number(screen, refusal::place(refusal) as u64);
+            print_kept(screen, out, 0);
         }
     }
-    print(b"\n");
+    print(screen, b"\n");
 }
 
 fn sevens() -> [u8; 700]
@@ -90,32 +88,32 @@ fn zeros() -> [i32; 170]
     [0; 170]
 }
 
-fn try_bytes(bytes: &[u8]) {
+fn try_bytes(screen: &mut Screen, bytes: &[u8]) {
     if bytes.len() < 6 {
-        print(b" too short\n");
+        print(screen, b" too short\n");
         return;
     }
     let mut numbers = zeros();
     let n = numbers_of(&bytes[6..], &mut numbers);
     let mut out = sevens();
     let room = job::le16(bytes, 0) as usize;
-    try_list(job::le32(bytes, 2), &numbers[..n], &mut out, room);
+    try_list(screen, job::le32(bytes, 2), &numbers[..n], &mut out, room);
 }
 
-fn try_line(line: &[u8]) {
-    let space = hex::place_of(line, b' ', 0);
-    let digits = hex::least(space + 1, line.len());
-    print(&line[..space]);
-    let mut bytes = io::buffer();
-    let n = hex::unhex(&line[digits..], &mut bytes);
-    try_bytes(&bytes[..n]);
+fn try_line(screen: &mut Screen, line: &[u8]) {
+    let space = hexadecimal::place_of(line, b' ', 0);
+    let digits = hexadecimal::least(space + 1, line.len());
+    print(screen, &line[..space]);
+    let mut bytes = console::buffer();
+    let n = hexadecimal::unhex(&line[digits..], &mut bytes);
+    try_bytes(screen, &bytes[..n]);
 }
 
-fn try_lines(lines: &[u8]) {
+fn try_lines(screen: &mut Screen, lines: &[u8]) {
     let mut from: usize = 0;
     while from < lines.len() {
-        let end = hex::place_of(lines, b'\n', from);
-        try_line(&lines[from..end]);
+        let end = hexadecimal::place_of(lines, b'\n', from);
+        try_line(screen, &lines[from..end]);
         from = end + 1;
     }
 }
@@ -127,8 +125,10 @@ fn buffer() -> [u8; 131072]
     [0; 131072]
 }
 
-fn main() {
+fn main(rt: HostRuntime) -> io::Result<()> {
     let mut lines = buffer();
-    let n = io::read_full(STDIN_FILENO, &mut lines);
-    try_lines(&lines[..n]);
+    let n = console::read_full(&mut rt.stdin(), &mut lines)?;
+    let mut screen = Output::new(rt.stdout());
+    try_lines(&mut screen, &lines[..n]);
+    screen.end()
 }

@@ -1,77 +1,121 @@
 // Chooses between two plan books of a job (document 02, C-17). Its arguments are the names of files: JOB FIRST SECOND [OUT]. It prints which book is to be staked
 // from, or the refusal; where a book is chosen, its bytes go to OUT, if that is named.
 #![tactic(auto)]
-use libc::{STDERR_FILENO, STDOUT_FILENO};
+
+use console::{Output, Screen};
+use std::alloc::Global;
+use std::env::Env;
+use std::io;
+use std::io::{Read, Stderr};
+use std::rt::Files;
 
 // Opens the file that an argument names, and says so where it cannot.
-fn open(argument: usize) -> i32 {
-    let mut name = io::buffer();
-    let n = os::arg(argument, &mut name);
-    let file = os::open_read(&name[..n]);
-    if file < 0 {
-        os::fail(&name[..n]);
+fn open<R: Files + Env>(
+    rt: &R,
+    alloc: Global,
+    errors: &mut Output<Stderr>,
+    argument: usize,
+) -> io::Result<Option<R::File>> {
+    let mut name = console::buffer();
+    let n = console::argument(rt, argument, &mut name);
+    match console::open(rt, &name[..n]) {
+        Ok(file) => Ok(Some(file)),
+        Err(error) => {
+            errors.put_error(alloc, &name[..n], error)?;
+            Ok(None)
+        }
     }
-    file
 }
 
 // Prints what is chosen, or the refusal. The text buffer has room for every text (`choice_whole` of choice_report).
-fn print(job: &[u8], first: &[u8], second: &[u8]) {
+fn print(screen: &mut Screen, job: &[u8], first: &[u8], second: &[u8]) {
     let mut text = [0u8; 72];
     let n = choice_report::list_choice(job, first, second, &mut text);
-    io::write_all(STDOUT_FILENO, &text[..n]);
+    screen.put(&text[..n]);
 }
 
 // Writes a book to the file that an argument names, or says why it cannot.
-fn store(book: &[u8], argument: usize) {
-    let mut name = io::buffer();
-    let n = os::arg(argument, &mut name);
-    let file = os::open_overwrite(&name[..n]);
-    if file < 0 {
-        os::fail(&name[..n]);
-        return;
+fn store<R: Files + Env>(
+    rt: &R,
+    alloc: Global,
+    errors: &mut Output<Stderr>,
+    book: &[u8],
+    argument: usize,
+) -> io::Result<()> {
+    let mut name = console::buffer();
+    let n = console::argument(rt, argument, &mut name);
+    match console::store(rt, &name[..n], book) {
+        Ok(()) => Ok(()),
+        Err(error) => errors.put_error(alloc, &name[..n], error),
     }
-    if !io::write_all(file, book) {
-        os::fail(&name[..n]);
-    }
-    libc::close(file);
 }
 
 // The book that is chosen goes to the file OUT as it was lent. No book that can be chosen is empty: no bytes are a refusal, and OUT is left alone.
-fn store_chosen<'a>(job: &[u8], first: &'a [u8], second: &'a [u8]) {
+fn store_chosen<'a, R: Files + Env>(
+    rt: &R,
+    alloc: Global,
+    errors: &mut Output<Stderr>,
+    job: &[u8],
+    first: &'a [u8],
+    second: &'a [u8],
+) -> io::Result<()> {
     let chosen = choice::choose(job, first, second);
     if chosen.len() > 0 {
-        store(chosen, 4);
+        store(rt, alloc, errors, chosen, 4)?;
     }
+    Ok(())
 }
 
 // The first 640 bytes of the job and the first 36,887 of each book decide (`choice_prefix` of choice_report), and a book that is chosen has no more (`choice_in`).
-fn read(job_file: i32, first_file: i32, second_file: i32, stores: bool) {
+fn read<R: Files + Env>(
+    rt: &R,
+    alloc: Global,
+    screen: &mut Screen,
+    errors: &mut Output<Stderr>,
+    mut job_file: R::File,
+    mut first_file: R::File,
+    mut second_file: R::File,
+    stores: bool,
+) -> io::Result<()> {
     let mut job = [0u8; 640];
-    let n = io::read_full(job_file, &mut job);
+    let n = console::read_full(&mut job_file, &mut job)?;
     let mut first = [0u8; 36887];
-    let f = io::read_full(first_file, &mut first);
+    let f = console::read_full(&mut first_file, &mut first)?;
     let mut second = [0u8; 36887];
-    let s = io::read_full(second_file, &mut second);
-    print(&job[..n], &first[..f], &second[..s]);
+    let s = console::read_full(&mut second_file, &mut second)?;
+    print(screen, &job[..n], &first[..f], &second[..s]);
     if stores {
-        store_chosen(&job[..n], &first[..f], &second[..s]);
+        store_chosen(rt, alloc, errors, &job[..n], &first[..f], &second[..s])?;
     }
+    Ok(())
 }
 
-fn main() {
-    let words = os::arg_count();
+fn main(rt: HostRuntime) -> io::Result<()> {
+    let mut screen = Output::new(rt.stdout());
+    let mut errors = Output::new(rt.stderr());
+    let words = console::argument_count(&rt, 6);
     if words < 4 || words > 5 {
-        io::write_all(
-            STDERR_FILENO,
+        errors.put(
             b"usage: plan_choice JOB FIRST SECOND [OUT]: files of a job and of two plan books of it, and one for the chosen book\n",
         );
-        return;
+        return errors.end();
     }
-    let job_file = open(1);
-    let first_file = open(2);
-    let second_file = open(3);
-    if job_file < 0 || first_file < 0 || second_file < 0 {
-        return;
+    let job_file = open(&rt, rt.alloc(), &mut errors, 1)?;
+    let first_file = open(&rt, rt.alloc(), &mut errors, 2)?;
+    let second_file = open(&rt, rt.alloc(), &mut errors, 3)?;
+    match (job_file, first_file, second_file) {
+        (Some(job), Some(first), Some(second)) => read(
+            &rt,
+            rt.alloc(),
+            &mut screen,
+            &mut errors,
+            job,
+            first,
+            second,
+            words == 5,
+        )?,
+        _ => {}
     }
-    read(job_file, first_file, second_file, words == 5);
+    screen.end()?;
+    errors.end()
 }

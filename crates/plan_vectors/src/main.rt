@@ -1,14 +1,16 @@
 // Prints plans of a few routes: each route's corners in line indexes, the pits, and the bytes that are written into dirty buffers.
 #![tactic(auto)]
+
 ghost use Rattle.std.specs.Prelude.{◌≡◌, true, map, ◌<◌, ◌≤◌, length, take};
 ghost use Rattle.network.specs.Graph.{below};
 ghost use Rattle.network.specs.Steps.{Fits};
 ghost use Rattle.route.specs.Route.{route_by, lane, OnGrid, numbered, corner_count};
 ghost use Rattle.route.specs.Stored.{tracks_of, routes_in, Stored};
 
-use libc::STDOUT_FILENO;
+use console::{Output, Screen};
 use plan::Head;
 use route::{Track, Vertex, Walker};
+use std::io;
 
 // Routes from (x1[k], y1[k]) to (x2[k], y2[k]), with room for 128 steps each.
 #[derive(Clone, Copy)]
@@ -21,13 +23,13 @@ struct Routes {
     count: usize,
 }
 
-fn print(text: &[u8]) {
-    io::write_all(STDOUT_FILENO, text);
+fn print(screen: &mut Screen, text: &[u8]) {
+    screen.put(text);
 }
 
-fn print_number(n: u64) {
-    print(b" ");
-    io::print_decimal(STDOUT_FILENO, n);
+fn print_number(screen: &mut Screen, n: u64) {
+    print(screen, b" ");
+    screen.put_decimal(n);
 }
 
 // A step along the row is an r, any other letter is a step along the column.
@@ -57,10 +59,8 @@ fn add(routes: Routes, letters: &[u8], x1: u32, y1: u32, x2: u32, y2: u32) -> Ro
         return routes;
     }
     let mut steps = routes.steps;
-    let mut i: usize = 0;
-    while i < n {
+    for i in 0..n {
         steps[k * 128 + i] = step_of(letters[i]);
-        i += 1;
     }
     let mut from_columns = routes.x1;
     let mut from_rows = routes.y1;
@@ -103,12 +103,10 @@ fn on_grid(track: Track, steps: &[u8]) -> bool
         return false;
     }
     let mut across: usize = 0;
-    let mut i: usize = 0;
-    while i < count {
+    for i in 0..count {
         if steps[i] == 0 {
             across += 1;
         }
-        i += 1;
     }
     fits(track.right, track.start.column, across) & fits(track.up, track.start.row, count - across)
 }
@@ -143,33 +141,34 @@ fn all_on_grid(
     true
 }
 
-fn print_corner(v: Vertex) {
-    print_number(v.column as u64);
-    print(b",");
-    io::print_decimal(STDOUT_FILENO, v.row as u64);
+fn print_corner(screen: &mut Screen, v: Vertex) {
+    print_number(screen, v.column as u64);
+    print(screen, b",");
+    screen.put_decimal(v.row as u64);
 }
 
 // The corners of a route, as the walker meets them.
-fn print_corners(track: Track, steps: &[u8], corners: usize)
+fn print_corners(screen: &mut Screen, track: Track, steps: &[u8], corners: usize)
     requires { OnGrid numbered (route_by steps.now track) }
 {
-    print(b"corners");
-    print_number(corners as u64);
-    print(b":");
+    print(screen, b"corners");
+    print_number(screen, corners as u64);
+    print(screen, b":");
     let mut w = Walker::start(track);
     while w.at < track.count {
         let s = w.step(track, steps);
         if s.turned {
-            print_corner(w.here);
+            print_corner(screen, w.here);
         }
         w = s.walker;
     }
-    print_corner(w.here);
-    print(b"\n");
+    print_corner(screen, w.here);
+    print(screen, b"\n");
 }
 
 // The corners of the first three routes.
 fn print_routes(
+    screen: &mut Screen,
     steps: &[u8],
     x1: &[u32; 32],
     y1: &[u32; 32],
@@ -180,13 +179,11 @@ fn print_routes(
 )
     requires { Stored steps.now 128 (tracks_of x1.now y1.now x2.now y2.now) count }
 {
-    let n = hex::least(count, 3);
-    let mut i: usize = 0;
-    while i < n {
+    let n = hexadecimal::least(count, 3);
+    for i in 0..n {
         let track = route::track_of(x1[i], y1[i], x2[i], y2[i]);
         let from = i * 128;
-        print_corners(track, &steps[from..], corners[i]);
-        i += 1;
+        print_corners(screen, track, &steps[from..], corners[i]);
     }
 }
 
@@ -195,14 +192,12 @@ fn digit(n: u8) -> u8 {
     if d < 10 { 48 + d } else { 87 + d }
 }
 
-fn print_hex(bytes: &[u8]) {
-    let mut i: usize = 0;
-    while i < bytes.len() {
+fn print_hex(screen: &mut Screen, bytes: &[u8]) {
+    for i in 0..bytes.len() {
         let b = bytes[i];
-        print(&[digit(b / 16), digit(b)]);
-        i += 1;
+        print(screen, &[digit(b / 16), digit(b)]);
     }
-    print(b"\n");
+    print(screen, b"\n");
 }
 
 fn wide(b: u8) -> u64
@@ -214,34 +209,33 @@ fn wide(b: u8) -> u64
 // A digest of the bytes: each counts with its place.
 fn digest(bytes: &[u8]) -> u64 {
     let mut sum: u64 = 0;
-    let mut i: usize = 0;
-    while i < bytes.len() {
+    for i in 0..bytes.len() {
         sum = (sum * 257 + wide(bytes[i]) + 1) % 4294967291;
-        i += 1;
     }
     sum
 }
 
 // Prints a plan's length, its digest, its bytes if they are few, and the digest of what stands behind it.
-fn print_plan(out: &[u8], n: usize)
+fn print_plan(screen: &mut Screen, out: &[u8], n: usize)
     requires { n ≤ length out.now }
 {
-    print(b"bytes");
-    print_number(n as u64);
-    print(b" digest");
-    print_number(digest(&out[..n]));
-    print(b" behind");
-    print_number((out.len() - n) as u64);
-    print(b" digest");
-    print_number(digest(&out[n..]));
-    print(b"\n");
+    print(screen, b"bytes");
+    print_number(screen, n as u64);
+    print(screen, b" digest");
+    print_number(screen, digest(&out[..n]));
+    print(screen, b" behind");
+    print_number(screen, (out.len() - n) as u64);
+    print(screen, b" digest");
+    print_number(screen, digest(&out[n..]));
+    print(screen, b"\n");
     if n < 400 {
-        print_hex(&out[..n]);
+        print_hex(screen, &out[..n]);
     }
 }
 
 // The corners and the pits of routes.
 fn print_pits(
+    screen: &mut Screen,
     steps: &[u8],
     x1: &[u32; 32],
     y1: &[u32; 32],
@@ -257,15 +251,16 @@ fn print_pits(
 {
     let mut marks = [0u8; 4096];
     let pits = route::mark_routes(steps, 128, x1, y1, x2, y2, count, &mut marks, 64, corners);
-    print_routes(steps, x1, y1, x2, y2, count, &*corners);
-    print(b"pits");
-    print_number(pits as u64);
-    print(b"\n");
+    print_routes(screen, steps, x1, y1, x2, y2, count, &*corners);
+    print(screen, b"pits");
+    print_number(screen, pits as u64);
+    print(screen, b"\n");
     pits
 }
 
 // Prints the plan in a buffer of 36,886 bytes and in one of 40,960.
 fn print_plans(
+    screen: &mut Screen,
     head: Head,
     numbers: &[u32; 32],
     meets: &[u32; 32],
@@ -288,17 +283,18 @@ fn print_plans(
         &mut small, head, numbers, meets, centres, corners, steps, 128, x1, y1, x2, y2, count,
         columns, rows,
     );
-    print_plan(&small, n);
+    print_plan(screen, &small, n);
     let mut large = [0xA5u8; 40960];
     let m = plan::write_plan(
         &mut large, head, numbers, meets, centres, corners, steps, 128, x1, y1, x2, y2, count,
         columns, rows,
     );
-    print_plan(&large, m);
+    print_plan(screen, &large, m);
 }
 
 // Prints the corners, the pits and the plan of routes that are on the grid.
 fn show_stored(
+    screen: &mut Screen,
     head: Head,
     numbers: &[u32; 32],
     meets: &[u32; 32],
@@ -315,20 +311,22 @@ fn show_stored(
     requires { head.grouped ≡ true }
 {
     if !all_on_grid(steps, x1, y1, x2, y2, count) {
-        print(b"off the grid\n");
+        print(screen, b"off the grid\n");
         return;
     }
     let mut corners = [0usize; 32];
-    let pits = print_pits(steps, x1, y1, x2, y2, count, &mut corners);
+    let pits = print_pits(screen, steps, x1, y1, x2, y2, count, &mut corners);
     let mut figures = head;
     figures.pits = pits as u32;
     print_plans(
-        figures, numbers, meets, centres, &corners, steps, x1, y1, x2, y2, count, columns, rows,
+        screen, figures, numbers, meets, centres, &corners, steps, x1, y1, x2, y2, count, columns,
+        rows,
     );
 }
 
 // The same of routes that are held in one struct.
 fn show(
+    screen: &mut Screen,
     head: Head,
     numbers: &[u32; 32],
     meets: &[u32; 32],
@@ -345,6 +343,7 @@ fn show(
     let x2 = routes.x2;
     let y2 = routes.y2;
     show_stored(
+        screen,
         head,
         numbers,
         meets,
@@ -361,7 +360,7 @@ fn show(
 }
 
 // Prints the corners and the pits alone.
-fn show_pits(routes: Routes) {
+fn show_pits(screen: &mut Screen, routes: Routes) {
     let count = routes.count;
     let steps = routes.steps;
     let x1 = routes.x1;
@@ -370,12 +369,12 @@ fn show_pits(routes: Routes) {
     let y2 = routes.y2;
     if all_on_grid(&steps, &x1, &y1, &x2, &y2, count) {
         let mut corners = [0usize; 32];
-        let _ = print_pits(&steps, &x1, &y1, &x2, &y2, count, &mut corners);
+        let _ = print_pits(screen, &steps, &x1, &y1, &x2, &y2, count, &mut corners);
     }
 }
 
 // Document 01's job 7.
-fn job_seven() {
+fn job_seven(screen: &mut Screen) {
     let mut columns = [0u32; 64];
     columns[0] = 1000000;
     columns[1] = 1000020;
@@ -405,11 +404,13 @@ fn job_seven() {
         pits: 0,
         last: 1,
     };
-    show(head, &numbers, &meets, &centres, routes, &columns, &rows);
+    show(
+        screen, head, &numbers, &meets, &centres, routes, &columns, &rows,
+    );
 }
 
 // One run, from end to end of the ranges.
-fn one_run() {
+fn one_run(screen: &mut Screen) {
     let mut columns = [0u32; 64];
     columns[1] = 2000000;
     let rows = [2000000u32; 64];
@@ -425,11 +426,13 @@ fn one_run() {
         pits: 0,
         last: 1,
     };
-    show(head, &numbers, &meets, &numbers, routes, &columns, &rows);
+    show(
+        screen, head, &numbers, &meets, &numbers, routes, &columns, &rows,
+    );
 }
 
 // A job without runs: a head and an end.
-fn no_runs() {
+fn no_runs(screen: &mut Screen) {
     let columns = [0u32; 64];
     let rows = [0u32; 64];
     let numbers = [0u32; 32];
@@ -444,11 +447,13 @@ fn no_runs() {
         pits: 0,
         last: 0,
     };
-    show(head, &numbers, &meets, &numbers, routes, &columns, &rows);
+    show(
+        screen, head, &numbers, &meets, &numbers, routes, &columns, &rows,
+    );
 }
 
 // Three runs to the left, downwards and both, with a turn at every vertex and with none, in two groups; the upper two bytes of figures are left out.
-fn all_ways() {
+fn all_ways(screen: &mut Screen) {
     let mut columns = [0u32; 64];
     columns[0] = 930000;
     columns[1] = 999997;
@@ -479,7 +484,9 @@ fn all_ways() {
         pits: 0,
         last: 65538,
     };
-    show(head, &numbers, &meets, &centres, routes, &columns, &rows);
+    show(
+        screen, head, &numbers, &meets, &centres, routes, &columns, &rows,
+    );
 }
 
 fn counting(from: u32) -> [u32; 32]
@@ -511,15 +518,14 @@ fn evenly(from: u32) -> [u32; 64]
 }
 
 // The longest plan: 32 runs on 64 columns and 64 rows, with a turn at every vertex.
-fn longest() {
+fn longest(screen: &mut Screen) {
     let columns = evenly(0);
     let rows = evenly(2);
     let numbers = counting(9968);
     let meets = [31u32; 32];
     let centres = [9968u32; 32];
     let mut routes = no_routes();
-    let mut i: usize = 0;
-    while i < 16 {
+    for i in 0..16 {
         let one = add(
             routes,
             b"rcrcrcrcrcrcrcrcrcrcrcrcrcrcrcrcrcrcrcrcrcrcrcrcrcrcrcrcrcrcrcrcrcrcrcrcrcrcrcrcrcrcrcrcrcrcrcrcrcrcrcrcrcrcrcrcrcrcrcrcrcrcrc",
@@ -537,7 +543,6 @@ fn longest() {
             63,
         );
         routes = two;
-        i += 1;
     }
     let head = Head {
         grouped: true,
@@ -548,36 +553,40 @@ fn longest() {
         pits: 0,
         last: 1,
     };
-    show(head, &numbers, &meets, &centres, routes, &columns, &rows);
+    show(
+        screen, head, &numbers, &meets, &centres, routes, &columns, &rows,
+    );
 }
 
 // The pits of a route along row 2, of one down column 3, and of a third.
-fn cross(letters: &[u8], x1: u32, y1: u32, x2: u32, y2: u32) {
+fn cross(screen: &mut Screen, letters: &[u8], x1: u32, y1: u32, x2: u32, y2: u32) {
     let first = add(no_routes(), b"rrrrrr", 0, 2, 6, 2);
     let second = add(first, b"ccccc", 3, 5, 3, 0);
     let routes = add(second, letters, x1, y1, x2, y2);
-    show_pits(routes);
+    show_pits(screen, routes);
 }
 
 // Where cables cross. The third keeps away; it passes the crossing along the row, along the column, and back along the row; it ends there, starts
 // there, turns there; it passes the crossing between two turns; it crosses both beside it.
-fn crossings() {
-    cross(b"cc", 6, 4, 6, 6);
-    cross(b"rrr", 2, 2, 5, 2);
-    cross(b"cccccc", 3, 1, 3, 7);
-    cross(b"rrrr", 5, 2, 1, 2);
-    cross(b"rrr", 0, 2, 3, 2);
-    cross(b"cc", 3, 2, 3, 0);
-    cross(b"crr", 3, 1, 5, 2);
-    cross(b"crrrrc", 1, 1, 5, 3);
-    cross(b"rrcc", 2, 1, 4, 3);
+fn crossings(screen: &mut Screen) {
+    cross(screen, b"cc", 6, 4, 6, 6);
+    cross(screen, b"rrr", 2, 2, 5, 2);
+    cross(screen, b"cccccc", 3, 1, 3, 7);
+    cross(screen, b"rrrr", 5, 2, 1, 2);
+    cross(screen, b"rrr", 0, 2, 3, 2);
+    cross(screen, b"cc", 3, 2, 3, 0);
+    cross(screen, b"crr", 3, 1, 5, 2);
+    cross(screen, b"crrrrc", 1, 1, 5, 3);
+    cross(screen, b"rrcc", 2, 1, 4, 3);
 }
 
-fn main() {
-    job_seven();
-    one_run();
-    no_runs();
-    all_ways();
-    longest();
-    crossings();
+fn main(rt: HostRuntime) -> io::Result<()> {
+    let mut screen = Output::new(rt.stdout());
+    job_seven(&mut screen);
+    one_run(&mut screen);
+    no_runs(&mut screen);
+    all_ways(&mut screen);
+    longest(&mut screen);
+    crossings(&mut screen);
+    screen.end()
 }

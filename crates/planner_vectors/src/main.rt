@@ -5,20 +5,22 @@
 // Of the seven calls four are of `plan`, lent just the forecast, more of both, a word less and a byte less; two of `plan_for_map`, lent the forecast's
 // bytes and one less; and the last of `plan_in`, lent just the forecast.
 #![tactic(auto)]
+
 ghost use Rattle.std.specs.Prelude.{◌≡◌, ◌≤◌, length};
 
-use libc::{STDIN_FILENO, STDOUT_FILENO};
+use console::{Output, Screen};
 use planner::{Answer, Foretold};
 use records::Record;
 use refusal::Refusal;
+use std::io;
 
-fn print(words: &[u8]) {
-    io::write_all(STDOUT_FILENO, words);
+fn print(screen: &mut Screen, words: &[u8]) {
+    screen.put(words);
 }
 
-fn print_number(n: u64) {
-    print(b" ");
-    io::print_decimal(STDOUT_FILENO, n);
+fn print_number(screen: &mut Screen, n: u64) {
+    print(screen, b" ");
+    screen.put_decimal(n);
 }
 
 // The number of the refusal that a code tells; 0 if it tells none.
@@ -41,13 +43,11 @@ fn refusal_of(code: i32) -> u64 {
 
 // Whether the first words, as many as are cleared, are 0, and the others are 3.
 fn words_kept(work: &[u32], cleared: usize) -> bool {
-    let mut i: usize = 0;
-    while i < work.len() {
+    for i in 0..work.len() {
         let due: u32 = if i < cleared { 0 } else { 3 };
         if work[i] != due {
             return false;
         }
-        i += 1;
     }
     true
 }
@@ -64,27 +64,27 @@ fn bytes_kept(out: &[u8], from: usize) -> bool {
     true
 }
 
-fn print_refusal(refusal: Refusal) {
-    print_number(refusal::number(refusal) as u64);
-    print_number(refusal::place(refusal) as u64);
+fn print_refusal(screen: &mut Screen, refusal: Refusal) {
+    print_number(screen, refusal::number(refusal) as u64);
+    print_number(screen, refusal::place(refusal) as u64);
 }
 
-fn print_kept(kept: bool) {
+fn print_kept(screen: &mut Screen, kept: bool) {
     if kept {
-        print(b" kept");
+        print(screen, b" kept");
     } else {
-        print(b" changed");
+        print(screen, b" changed");
     }
 }
 
 // The figures of a record.
-fn print_record(found: Record) {
+fn print_record(screen: &mut Screen, found: Record) {
     match found {
         Record::Head(head) => {
-            print_number(head.last as u64);
-            print_number(head.trench as u64);
-            print_number(head.saved as u64);
-            print(b" :");
+            print_number(screen, head.last as u64);
+            print_number(screen, head.trench as u64);
+            print_number(screen, head.saved as u64);
+            print(screen, b" :");
         }
         Record::Route {
             grouped,
@@ -93,22 +93,22 @@ fn print_record(found: Record) {
             corners,
             centre,
         } => {
-            print_number(meets as u64);
-            print_number(centre as u64);
-            print(b",");
+            print_number(screen, meets as u64);
+            print_number(screen, centre as u64);
+            print(screen, b",");
         }
         Record::Corner { x, y } => {}
         Record::End(_) => {}
-        Record::Other => print(b" other"),
+        Record::Other => print(screen, b" other"),
     }
 }
 
 // The figures of a plan; the answer is the place of its end record, which takes all bytes that are left.
-fn print_figures(plan: &[u8]) -> usize {
+fn print_figures(screen: &mut Screen, plan: &[u8]) -> usize {
     let mut at: usize = 0;
     while at < plan.len() {
         let found = records::first_record(&plan[at..]);
-        print_record(found);
+        print_record(screen, found);
         let left = plan.len() - at;
         let size = text::record_size(found, left);
         if size >= left {
@@ -120,8 +120,8 @@ fn print_figures(plan: &[u8]) -> usize {
 }
 
 // The figures of a plan of this length, and whether its end record, which has 3 bytes, ends there and the bytes behind it are kept.
-fn plan_kept(out: &[u8], length: usize) -> bool {
-    let end = print_figures(out);
+fn plan_kept(screen: &mut Screen, out: &[u8], length: usize) -> bool {
+    let end = print_figures(screen, out);
     if end > 36883 {
         return false;
     }
@@ -135,8 +135,8 @@ fn length_code(n: usize) -> i32
 }
 
 // The same for the code that is the plan's length.
-fn map_plan_kept(out: &[u8], code: i32) -> bool {
-    let end = print_figures(out);
+fn map_plan_kept(screen: &mut Screen, out: &[u8], code: i32) -> bool {
+    let end = print_figures(screen, out);
     if end > 36883 {
         return false;
     }
@@ -144,73 +144,88 @@ fn map_plan_kept(out: &[u8], code: i32) -> bool {
 }
 
 // What a code tells, the plan or the refusal, and whether the bytes that are not the plan's are kept.
-fn code_kept(job: &[u8], code: i32, out: &[u8]) -> bool {
+fn code_kept(screen: &mut Screen, job: &[u8], code: i32, out: &[u8]) -> bool {
     if code < 0 {
-        print_number(refusal_of(code));
-        print_number(planner::place_for_map(job) as u64);
+        print_number(screen, refusal_of(code));
+        print_number(screen, planner::place_for_map(job) as u64);
         return bytes_kept(out, 0);
     }
-    map_plan_kept(out, code)
+    map_plan_kept(screen, out, code)
 }
 
 // ---- the calls: of 16,400 words of 3 and 36,926 bytes of 7 the first are lent, and a plan clears so many words
 
-fn call_on(job: &[u8], words: usize, bytes: usize, cleared: usize, work: &mut [u32], out: &mut [u8])
+fn call_on(
+    screen: &mut Screen,
+    job: &[u8],
+    words: usize,
+    bytes: usize,
+    cleared: usize,
+    work: &mut [u32],
+    out: &mut [u8],
+)
     requires { (words ≤ length work.old) × (bytes ≤ length out.old) }
 {
-    print(b" |");
+    print(screen, b" |");
     match planner::plan(job, &mut work[..words], &mut out[..bytes]) {
         Answer::Planned(length) => {
-            let kept = plan_kept(out, length);
-            print_kept(kept & words_kept(work, cleared));
+            let kept = plan_kept(screen, out, length);
+            print_kept(screen, kept & words_kept(work, cleared));
         }
         Answer::Refused(refusal) => {
-            print_refusal(refusal);
-            print_kept(words_kept(work, 0) & bytes_kept(out, 0));
+            print_refusal(screen, refusal);
+            print_kept(screen, words_kept(work, 0) & bytes_kept(out, 0));
         }
     }
 }
 
-fn call(job: &[u8], words: usize, bytes: usize, cleared: usize)
+fn call(screen: &mut Screen, job: &[u8], words: usize, bytes: usize, cleared: usize)
     requires { (words ≤ 16400) × (bytes ≤ 36926) }
 {
     let mut work = [3u32; 16400];
     let mut out = [7u8; 36926];
-    call_on(job, words, bytes, cleared, &mut work, &mut out);
+    call_on(screen, job, words, bytes, cleared, &mut work, &mut out);
 }
 
-fn map_call_on(job: &[u8], bytes: usize, out: &mut [u8])
+fn map_call_on(screen: &mut Screen, job: &[u8], bytes: usize, out: &mut [u8])
     requires { bytes ≤ length out.old }
 {
-    print(b" |");
+    print(screen, b" |");
     let code = planner::plan_for_map(job, &mut out[..bytes]);
-    let kept = code_kept(job, code, out);
-    print_kept(kept);
+    let kept = code_kept(screen, job, code, out);
+    print_kept(screen, kept);
 }
 
-fn map_call(job: &[u8], bytes: usize)
+fn map_call(screen: &mut Screen, job: &[u8], bytes: usize)
     requires { bytes ≤ 36926 }
 {
     let mut out = [7u8; 36926];
-    map_call_on(job, bytes, &mut out);
+    map_call_on(screen, job, bytes, &mut out);
 }
 
-fn lent_call_on(job: &[u8], words: usize, bytes: usize, work: &mut [u32], out: &mut [u8])
+fn lent_call_on(
+    screen: &mut Screen,
+    job: &[u8],
+    words: usize,
+    bytes: usize,
+    work: &mut [u32],
+    out: &mut [u8],
+)
     requires { (words ≤ length work.old) × (bytes ≤ length out.old) }
 {
-    print(b" |");
+    print(screen, b" |");
     let code = planner::plan_in(job, &mut work[..words], &mut out[..bytes]);
-    let kept = code_kept(job, code, out);
+    let kept = code_kept(screen, job, code, out);
     let cleared = if code < 0 { 0 } else { words };
-    print_kept(kept & words_kept(work, cleared));
+    print_kept(screen, kept & words_kept(work, cleared));
 }
 
-fn lent_call(job: &[u8], words: usize, bytes: usize)
+fn lent_call(screen: &mut Screen, job: &[u8], words: usize, bytes: usize)
     requires { (words ≤ 16400) × (bytes ≤ 36926) }
 {
     let mut work = [3u32; 16400];
     let mut out = [7u8; 36926];
-    lent_call_on(job, words, bytes, &mut work, &mut out);
+    lent_call_on(screen, job, words, bytes, &mut work, &mut out);
 }
 
 // One less, but not below 0.
@@ -221,50 +236,55 @@ fn less(n: usize) -> usize
 }
 
 // The seven calls for a job of this forecast.
-fn calls(job: &[u8], words: usize, bytes: usize)
+fn calls(screen: &mut Screen, job: &[u8], words: usize, bytes: usize)
     requires { (words ≤ 16384) × (bytes ≤ 36886) }
 {
-    call(job, words, bytes, words);
-    call(job, words + 16, bytes + 40, words);
-    call(job, less(words), bytes, words);
-    call(job, words, less(bytes), words);
-    map_call(job, bytes);
-    map_call(job, less(bytes));
-    lent_call(job, words, bytes);
+    call(screen, job, words, bytes, words);
+    call(screen, job, words + 16, bytes + 40, words);
+    call(screen, job, less(words), bytes, words);
+    call(screen, job, words, less(bytes), words);
+    map_call(screen, job, bytes);
+    map_call(screen, job, less(bytes));
+    lent_call(screen, job, words, bytes);
 }
 
 // A forecast above the most that a job can need is lent as the most. Where there is none, nothing is lent, or little.
-fn try_job(job: &[u8]) {
+fn try_job(screen: &mut Screen, job: &[u8]) {
     match planner::forecast(job) {
         Foretold::Needs(words, bytes) => {
-            print(b" needs");
-            print_number(words as u64);
-            print_number(bytes as u64);
-            calls(job, hex::least(words, 16384), hex::least(bytes, 36886));
+            print(screen, b" needs");
+            print_number(screen, words as u64);
+            print_number(screen, bytes as u64);
+            calls(
+                screen,
+                job,
+                hexadecimal::least(words, 16384),
+                hexadecimal::least(bytes, 36886),
+            );
         }
         Foretold::Refused(refusal) => {
-            print(b" refused");
-            print_refusal(refusal);
-            calls(job, 0, 0);
+            print(screen, b" refused");
+            print_refusal(screen, refusal);
+            calls(screen, job, 0, 0);
         }
     }
-    print(b"\n");
+    print(screen, b"\n");
 }
 
-fn try_line(line: &[u8]) {
-    let space = hex::place_of(line, b' ', 0);
-    let digits = hex::least(space + 1, line.len());
-    print(&line[..space]);
-    let mut bytes = io::buffer();
-    let n = hex::unhex(&line[digits..], &mut bytes);
-    try_job(&bytes[..n]);
+fn try_line(screen: &mut Screen, line: &[u8]) {
+    let space = hexadecimal::place_of(line, b' ', 0);
+    let digits = hexadecimal::least(space + 1, line.len());
+    print(screen, &line[..space]);
+    let mut bytes = console::buffer();
+    let n = hexadecimal::unhex(&line[digits..], &mut bytes);
+    try_job(screen, &bytes[..n]);
 }
 
-fn try_lines(lines: &[u8]) {
+fn try_lines(screen: &mut Screen, lines: &[u8]) {
     let mut from: usize = 0;
     while from < lines.len() {
-        let end = hex::place_of(lines, b'\n', from);
-        try_line(&lines[from..end]);
+        let end = hexadecimal::place_of(lines, b'\n', from);
+        try_line(screen, &lines[from..end]);
         from = end + 1;
     }
 }
@@ -276,8 +296,10 @@ fn buffer() -> [u8; 262144]
     [0; 262144]
 }
 
-fn main() {
+fn main(rt: HostRuntime) -> io::Result<()> {
     let mut lines = buffer();
-    let n = io::read_full(STDIN_FILENO, &mut lines);
-    try_lines(&lines[..n]);
+    let n = console::read_full(&mut rt.stdin(), &mut lines)?;
+    let mut screen = Output::new(rt.stdout());
+    try_lines(&mut screen, &lines[..n]);
+    screen.end()
 }

@@ -8,11 +8,13 @@
 //     10    64 columns, each three words: leaves on it, leaves on it and on the line before it, length from that line modulo 2,000,001
 //     778   64 rows, the same
 #![tactic(auto)]
+
 ghost use Rattle.std.specs.Prelude.{◌≡◌, List, ℕ, ◌+◌, ◌≤◌, ◌<◌, length};
 ghost use Rattle.table.specs.Frame.{line_in, group_of};
 ghost use Rattle.table.specs.Rule.{Fit};
 
-use libc::{STDIN_FILENO, STDOUT_FILENO};
+use console::{Output, Screen};
+use std::io;
 use table::frame::{Frame, Line};
 
 fn wide(b: u8) -> u32
@@ -83,16 +85,17 @@ fn go_round(work: &mut [u32], cols: &[u32; 192], rows: &[u32; 192], g: Frame, ro
     sum
 }
 
-fn print(figure: u32, sum: u32) {
-    io::print_decimal(STDOUT_FILENO, figure as u64);
-    io::write_all(STDOUT_FILENO, b" ");
-    io::print_decimal(STDOUT_FILENO, sum as u64);
-    io::write_all(STDOUT_FILENO, b"\n");
+fn print(screen: &mut Screen, figure: u32, sum: u32) {
+    screen.put_decimal(figure as u64);
+    screen.put(b" ");
+    screen.put_decimal(sum as u64);
+    screen.put(b"\n");
 }
 
-fn main() {
+fn main(rt: HostRuntime) -> io::Result<()> {
     let mut bytes = [0u8; 1546];
-    io::read_full(STDIN_FILENO, &mut bytes);
+    console::read_full(&mut rt.stdin(), &mut bytes)?;
+    let mut screen = Output::new(rt.stdout());
     let rounds = job::le32(&bytes, 0) % 1048576;
     let mut cols = [0u32; 192];
     let mut rows = [0u32; 192];
@@ -101,5 +104,6 @@ fn main() {
     let g = frame_of(&bytes);
     let mut work = [0u32; 16384];
     let sum = go_round(&mut work, &cols, &rows, g, rounds);
-    print(table::fill::figure_of(&work, g), sum);
+    print(&mut screen, table::fill::figure_of(&work, g), sum);
+    screen.end()
 }

@@ -1,3 +1,0 @@
--- Lines of text and bytes in hexadecimal.
-pub mod Digits
-pub mod Lines
