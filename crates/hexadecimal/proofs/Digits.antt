@@ -69,10 +69,6 @@ pub record Stored (digits xs ys : List ℕ) (n k : ℕ) : Type 0 where
   pub same : length ys ≡ length xs
   pub bytes : ys ≡ paste xs 0 (bytes_of digits) k
 
--- at first none does
-pub stored_none : (digits xs : List ℕ) (n : ℕ) → n ≡ min (length digits / 2) (length xs) → Stored digits xs xs n 0
-stored_none digits xs n e = record { count = e; some = omega arith; same = refl; bytes = paste-zero xs 0 (bytes_of digits) }
-
 module _ (digits xs ys : List ℕ) (n k : ℕ) (i : Stored digits xs ys n k) where
   -- one byte more
   pub stored_next : (b : ℕ) → k < n → b ≡ 16 * digit_of (get_or digits (2 * k) 0) + digit_of (get_or digits (2 * k + 1) 0)

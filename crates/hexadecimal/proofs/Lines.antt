@@ -26,10 +26,6 @@ pub record Sought (c : ℕ) (text : List ℕ) (from i : ℕ) : Type 0 where
   pub within : i ≤ length text
   pub same : from + place_in c (drop from text) ≡ i + place_in c (drop i text)
 
--- at first nothing is passed
-pub sought_none : (c : ℕ) (text : List ℕ) (from : ℕ) → from ≤ length text → Sought c text from from
-sought_none c text from h = record { behind = omega arith; within = h; same = refl }
-
 module _ (c : ℕ) (text : List ℕ) (from i : ℕ) (s : Sought c text from i) where
   -- what is answered
   stands : place_in c (drop i text) ≡ 0 → Stands c text from i

@@ -8,15 +8,11 @@ use native.Mathlib.Omega.{arith}
 use borrow.Author.Tests.{eqb-true, eqb-false, ltb-true, ltb-false}
 use lib.Dec.{ltb, eqb}
 use lib.ListN.{length, get_or, drop}
-use types.Run.{OneOf, miss}
-use denote.Enum.Declared.{tag_of}
-use Rattle.job.specs.contracts.Record.{the_type}
 use Rattle.job.specs.declared.Record.{Record}
 use Rattle.job.specs.declared.Record.TheVariants as rec
 use Rattle.job.specs.Fields.{word2, word4}
 use Rattle.job.specs.Applies.{Kind, head, run, end, byte_of, size_of, Starts}
 use Rattle.job.specs.Records.{run_body, decoded, record_of}
-use Rattle.job.specs.Branches.{NotRun, NotHead}
 
 -- what holds of each side of a test, with what the test says there, holds of the side that it picks
 pub by_test : {A : Type 0} (P : A → Type 0) (b : Bool) {x y : A} → (b ≡ true → P x) → (b ≡ false → P y) → P (cond b x y)
@@ -67,19 +63,3 @@ pub record_says : (bytes : List ℕ) → Says bytes (record_of bytes)
 unfolding record_of
 record_says [] = before_end refl
 record_says (kind ∷ b) = says kind b
-
--- what the else branch of `let Record::Run(..)` tells of the record
-pub else_run : (g : Record) → OneOf (0 ∷ 2 ∷ 3 ∷ 4 ∷ []) (tag_of the_type g) → NotRun g
-else_run (rec.Head number) t = tt
-else_run (rec.Run r) t = miss (0 ∷ 2 ∷ 3 ∷ 4 ∷ []) 1 tt t
-else_run (rec.End count) t = tt
-else_run rec.Unknown t = tt
-else_run rec.Cut t = tt
-
--- and the else branch of `let Record::Head(..)`
-pub else_head : (g : Record) → OneOf (1 ∷ 2 ∷ 3 ∷ 4 ∷ []) (tag_of the_type g) → NotHead g
-else_head (rec.Head number) t = miss (1 ∷ 2 ∷ 3 ∷ 4 ∷ []) 0 tt t
-else_head (rec.Run r) t = tt
-else_head (rec.End count) t = tt
-else_head rec.Unknown t = tt
-else_head rec.Cut t = tt

@@ -1,5 +1,6 @@
 // Why a call is refused: every refusal of documents 01 and 02, with its number and its place.
 #![tactic(auto)]
+
 ghost use Rattle.std.specs.Prelude.{◌≡◌};
 ghost use Rattle.refusal.specs.Refusal.{refusal_number, refusal_place};
 

@@ -16,7 +16,7 @@ use Rattle.network.proofs.Tests.{and_split}
 use Rattle.sharing.specs.Instance.{Instance, Inside, Owner, none, same, cross, owner}
 use Rattle.sharing.specs.Table.{Flag, best, run, Table, all, unless, only, arrival, from, plus, best_of, run_word, Exact}
 use Rattle.sharing.specs.Trace.{with, Move, State, settle, share_of, settled, come, come_best, come_from, begins, next_run, next_by, owner_of, next, here, back, trace}
-use Rattle.sharing.specs.Walk.{dirs, moved, length_if, owned, sharing, Suits, free, joined, left, ran, Before, goes_on, begun, Linked, Kept, Traced}
+use Rattle.sharing.specs.Walk.{dirs, moved, length_if, owned, sharing, Suits, free, joined, ran, Before, goes_on, begun, Linked, Kept, Traced}
 use Rattle.sharing.proofs.Steps.{coord, moved_reverse}
 use Rattle.sharing.proofs.Table.{unless_is, only_is, plus_is, best_of_pos, left_max, right_max, all_turn, all_far, from_far}
 

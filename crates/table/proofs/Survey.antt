@@ -28,7 +28,6 @@ use Rattle.grid.proofs.Places.{position_line, axis_line}
 use Rattle.grid.proofs.Hanan.{length_runs, run_at_lem, columns_are, rows_are, axis_columns, axis_rows, run_placed, length_within}
 use Rattle.intersection.specs.Sets.{has}
 use Rattle.table.specs.Side.{Side, Sided, Rises, first_of, second_of}
-use Rattle.table.specs.Side
 use Rattle.table.specs.OnSides.{side_at, first_at, second_at, OnSides, view_by, box_by}
 use Rattle.table.specs.Frame.{Group, Grouped}
 use Rattle.table.specs.Rule.{table_of, Ruled, figure_of}

@@ -1,5 +1,4 @@
 use mathlib.Core.Path.{◌≡◌, subst}
-use Prim.Native.Nat.{◌-◌}
 use native.Mathlib.Omega.{arith}
 use Rattle.grid.proofs.Shifting.{Shifted, shifted_start, shifted_on, shifted_end}
 use Rattle.grid.proofs.shift.Goals as goal

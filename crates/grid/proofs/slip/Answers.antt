@@ -1,5 +1,4 @@
 use mathlib.Core.Path.{◌≡◌, subst}
-use Prim.Native.Nat.{◌-◌}
 use native.Mathlib.Omega.{arith}
 use Rattle.grid.proofs.Shifting.{Slipped, slipped_start, slipped_on, slipped_end}
 use Rattle.grid.proofs.slip.Goals as goal

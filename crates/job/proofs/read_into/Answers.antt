@@ -1,10 +1,8 @@
-use Prim.Native.Nat.{◌-◌}
 use mathlib.Core.Path.{sym, ap, ◌∙◌}
 use native.Mathlib.Omega.{arith}
 use lib.ListN.{drop}
 use Rattle.job.specs.Parse.{first_by}
 use Rattle.job.proofs.Progress.{first_refused, so_far_none, so_far_room, so_far_more, so_far_end, so_far_refused}
-use Rattle.job.proofs.Decoded.{else_head}
 use Rattle.job.proofs.read_into.Goals as goal
 
 pub returns-in_default : goal.returns-in_default

@@ -1,9 +1,7 @@
 -- `job::step_at` meets its contract: the record is a run, or what the else branch tells of it.
 -- Assumes nothing.
 use mathlib.Core.Path.{ap, ◌∙◌}
-use borrow.Author.Rules.{rules}
 use Rattle.job.specs.Parse.{step_by}
-use Rattle.job.proofs.Decoded.{else_run}
 use Rattle.job.proofs.step_at.Goals as goal
 
 pub returns-in_default : goal.returns-in_default

@@ -4,7 +4,7 @@ use mathlib.Core.Path.{◌≡◌}
 use mathlib.Core.List.{[]}
 use Prim.Native.Nat.{◌-◌, ◌≤◌, ◌<◌}
 use lib.ListN.{length}
-use Rattle.network.specs.Steps.{hor, steps}
+use Rattle.network.specs.Steps.{hor}
 use Rattle.sharing.specs.Walk.{moved}
 use Rattle.table.specs.Side.{side_of}
 use Rattle.table.specs.Walk.{trace_of, moves_of}

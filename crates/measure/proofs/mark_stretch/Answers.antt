@@ -1,4 +1,3 @@
-use Prim.Native.Nat.{◌-◌}
 use native.Mathlib.Omega.{arith}
 use Rattle.measure.specs.Marks.{direction_of}
 use Rattle.measure.proofs.Marking.{stretched_none, stretched_more, stretched_all}

@@ -1,5 +1,4 @@
 use mathlib.Core.Path.{◌≡◌, sym, ap, ◌∙◌}
-use Prim.Native.Nat.{◌-◌}
 use native.Mathlib.Omega.{arith}
 use Rattle.measure.specs.Measured.{trench_in, pits_in}
 use Rattle.measure.proofs.Counts.{trench_none, trench_more, pits_none, pits_more}

@@ -1,12 +1,12 @@
 use mathlib.Core.Path.{◌≡◌, ap}
-use Prim.Native.Nat.{ℕ, ◌+◌, ◌-◌, ◌*◌, ◌/◌, ◌<◌}
+use Prim.Native.Nat.{ℕ, ◌+◌, ◌*◌, ◌/◌, ◌<◌}
 use native.Mathlib.Nat.{div-mul-le_self}
 use native.Mathlib.Omega.{arith}
 use lib.ListN.{length}
 use Rattle.route.specs.declared.Walker.{Walker}
 use Rattle.route.specs.Route.{Route, route_by, OnGrid, indexed}
-use Rattle.route.specs.Marked.{indexes_of, touched}
-use Rattle.route.proofs.Walk.{On, visits, left, on_start, on_step, on_few, can_step, at_step, column_below, row_below, visits_next, visits_end, left_turned, left_straight, left_end}
+use Rattle.route.specs.Marked.{indexes_of}
+use Rattle.route.proofs.Walk.{On, on_start, on_step, on_few, can_step, at_step, column_below, row_below, visits_next, visits_end, left_turned, left_straight, left_end}
 use Rattle.route.proofs.Corners.{visits_touched, left_start, corners_few}
 use Rattle.route.proofs.Marks.{mark_inside, rest_all, rest_one, rest_last}
 use Rattle.route.proofs.mark_route.Goals as goal

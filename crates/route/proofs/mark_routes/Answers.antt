@@ -1,12 +1,11 @@
 use mathlib.Core.Path.{◌≡◌, refl, ◌∙◌}
 use mathlib.Core.List.{map}
-use Prim.Native.Nat.{ℕ, ◌-◌, ◌*◌, ◌/◌}
+use Prim.Native.Nat.{◌*◌, ◌/◌}
 use native.Mathlib.Nat.{div-mul-le_self}
 use native.Mathlib.Numerals.{add-one}
 use native.Mathlib.Omega.{arith}
-use lib.ListN.{length, take, length-set}
+use lib.ListN.{length, length-set}
 use lib.Seq.{take-suc-set}
-use Rattle.route.specs.declared.Track.{Track}
 use Rattle.route.specs.Route.{OnGrid, numbered, indexed, corners_of, corner_count}
 use Rattle.route.specs.Stored.{tracks_of, routes_in}
 use Rattle.route.proofs.Lists.{part_drop}

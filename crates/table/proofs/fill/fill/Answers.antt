@@ -1,9 +1,8 @@
-use Prim.Native.Nat.{ℕ, ◌-◌, ◌+◌, ◌*◌}
-use mathlib.Core.List.{List}
+use Prim.Native.Nat.{◌-◌, ◌+◌, ◌*◌}
 use mathlib.Core.Path.{◌≡◌, refl, sym, ap, ◌∙◌}
 use native.Mathlib.Numerals.{add-one}
 use Rattle.network.specs.Steps.{hor, ver}
-use Rattle.table.specs.Frame.{Group, group_of}
+use Rattle.table.specs.Frame.{group_of}
 use Rattle.table.specs.Rule.{position, cell_in}
 use Rattle.table.proofs.Filling.{position_base, position_first, position_next, position_plus, position_end, near, done_all, Filled, filled_none, filled_again, filled_more, filled_next, position_few, position_behind}
 use native.Mathlib.Omega.{arith}

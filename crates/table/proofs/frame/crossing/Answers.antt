@@ -1,7 +1,5 @@
 use borrow.Author.Rules.{rules}
-use Prim.Native.Nat.{◌-◌}
 use mathlib.Core.Path.{◌≡◌, refl, sym}
-use Rattle.intersection.specs.Sets.{pack}
 use Rattle.intersection.proofs.Digits.{pack_none, pack_lt}
 use Rattle.table.specs.Frame.{crosses}
 use Rattle.table.proofs.Boxes.{pack_more}

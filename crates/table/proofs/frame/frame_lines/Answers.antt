@@ -1,8 +1,6 @@
 use borrow.Author.Rules.{rules}
 use Prim.Native.Nat.{◌<◌, ◌-◌}
 use mathlib.Core.Path.{◌≡◌, refl, ◌∙◌}
-use lib.ListN.{length}
-use Rattle.network.specs.Plane.{gap}
 use Rattle.grid.specs.Lines.{length_at}
 use Rattle.table.specs.Frame.{frame_line}
 use Rattle.table.proofs.Lines.{gap_lt, length_line, line_next, sets_kept}

@@ -1,7 +1,5 @@
 use borrow.Author.Rules.{rules}
-use Prim.Native.Nat.{◌-◌}
 use mathlib.Core.Path.{◌≡◌, ◌∙◌, sym}
-use Rattle.network.specs.Plane.{gap}
 use Rattle.table.specs.Frame.{line_of}
 use Rattle.table.proofs.Lines.{gap_lt}
 use Rattle.table.proofs.Boxes.{leaves_none, leaves_more, leaves_lt}

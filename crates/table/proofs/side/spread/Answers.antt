@@ -1,4 +1,3 @@
-use Prim.Native.Nat.{◌-◌}
 use Rattle.table.proofs.Boxes.{spread_none, spread_more, spread_done}
 use borrow.Author.Rules.{rules}
 use native.Mathlib.Omega.{arith}

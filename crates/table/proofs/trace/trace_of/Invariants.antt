@@ -1,6 +1,6 @@
 -- From i on the arrays hold the moves behind the vertex where the walk stands.
 use mathlib.Core.Path.{◌≡◌}
-use Prim.Native.Nat.{pred, ◌+◌, ◌-◌, ◌≤◌}
+use Prim.Native.Nat.{pred, ◌+◌, ◌≤◌}
 use Rattle.table.specs.Frame.{group_of}
 use Rattle.table.proofs.Walking.{Held}
 use Rattle.table.proofs.trace.trace_of.Given as goal
