@@ -1,18 +1,15 @@
 -- The queries by places: what a record that is none, or a place that is none, gives.
 use mathlib.Core.Path.{◌≡◌, refl, sym, ap}
 use mathlib.Core.Bool.{Bool, true, false, cond, ◌&&◌}
-use mathlib.Core.List.{List, [], ◌∷◌}
+use mathlib.Core.List.{List}
 use Prim.Native.Nat.{ℕ, ◌+◌, ◌≤◌, ◌<◌}
 use native.Mathlib.Omega.{arith}
 use lib.ListN.{length, get_or, drop, get_or-eq_default}
 use lib.Dec.{ltb}
 use borrow.Author.Tests.{lt-ltb, le-ltb}
-use types.Run.{OneOf, miss}
-use denote.Enum.Declared.{tag_of}
 use Rattle.records.specs.declared.Record.{Record}
 use Rattle.records.specs.declared.Record.TheVariants as rec
 use Rattle.records.specs.Records.{record_of}
-use Rattle.records.specs.contracts.Record.{the_type}
 use Rattle.book.specs.declared.Route.TheVariants as route
 use Rattle.book.specs.declared.Spot.TheVariants as spot
 use Rattle.book.specs.Parse.{is_grouped}
@@ -20,15 +17,15 @@ use Rattle.book.specs.Reading.{as_route, route_by, as_spot, corner_place, corner
 
 -- ---- a record of another kind
 
-pub else_route : (g : Record) → OneOf (0 ∷ 2 ∷ 3 ∷ 4 ∷ []) (tag_of the_type g) → route.Nothing ≡ as_route g
-else_route (rec.Route g number meets said centre) t = absurd (miss (0 ∷ 2 ∷ 3 ∷ 4 ∷ []) 1 tt t)
+pub else_route : (g : Record) → ((q : Bool) (number meets said centre : ℕ) → g ≡ rec.Route q number meets said centre → ⊥) → route.Nothing ≡ as_route g
+else_route (rec.Route g number meets said centre) t = absurd (t g number meets said centre refl)
 else_route (rec.Head h) t = refl
 else_route (rec.Corner x y) t = refl
 else_route (rec.End total) t = refl
 else_route rec.Other t = refl
 
-pub else_corner : (g : Record) → OneOf (0 ∷ 1 ∷ 3 ∷ 4 ∷ []) (tag_of the_type g) → spot.Nothing ≡ as_spot g
-else_corner (rec.Corner x y) t = absurd (miss (0 ∷ 1 ∷ 3 ∷ 4 ∷ []) 2 tt t)
+pub else_corner : (g : Record) → ((x y : ℕ) → g ≡ rec.Corner x y → ⊥) → spot.Nothing ≡ as_spot g
+else_corner (rec.Corner x y) t = absurd (t x y refl)
 else_corner (rec.Head h) t = refl
 else_corner (rec.Route g number meets said centre) t = refl
 else_corner (rec.End total) t = refl

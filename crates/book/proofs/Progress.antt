@@ -7,8 +7,6 @@ use native.Mathlib.Numerals.{add-one}
 use native.Mathlib.Omega.{arith}
 use lib.ListN.{length, set, drop, replicate, length-append, length-drop}
 use lib.Seq.{drop-drop}
-use types.Run.{OneOf, miss}
-use denote.Enum.Declared.{tag_of}
 use Rattle.refusal.specs.declared.Refusal.{Refusal}
 use Rattle.refusal.specs.declared.Refusal.TheVariants.{NotWhole}
 use Rattle.plan.specs.declared.Head.{Head}
@@ -17,7 +15,6 @@ use Rattle.plan.proofs.Length.{route_size_lem}
 use Rattle.records.specs.declared.Record.{Record}
 use Rattle.records.specs.declared.Record.TheVariants as rec
 use Rattle.records.specs.Records.{record_of}
-use Rattle.records.specs.contracts.Record.{the_type}
 use Rattle.book.specs.declared.Corner.{Corner}
 use Rattle.book.specs.declared.Walk.{Walk}
 use Rattle.book.specs.declared.Step.TheVariants as step
@@ -64,8 +61,8 @@ NotHead (rec.Corner x y) = Unit {0}
 NotHead (rec.End total) = Unit {0}
 NotHead rec.Other = Unit {0}
 
-pub else_head : (g : Record) → OneOf (1 ∷ 2 ∷ 3 ∷ 4 ∷ []) (tag_of the_type g) → NotHead g
-else_head (rec.Head h) t = miss (1 ∷ 2 ∷ 3 ∷ 4 ∷ []) 0 tt t
+pub else_head : (g : Record) → ((h : Head) → g ≡ rec.Head h → ⊥) → NotHead g
+else_head (rec.Head h) t = t h refl
 else_head (rec.Route q number meets said centre) t = tt
 else_head (rec.Corner x y) t = tt
 else_head (rec.End total) t = tt

@@ -1,5 +1,6 @@
 // Reads a plan book of either set of kinds back (document 02, C-12 and C-16): its figures, its routes and their corners, or the first refusal.
 #![tactic(auto)]
+
 mod scan;
 mod steps;
 

@@ -4,30 +4,29 @@ use mathlib.Core.Bool.{Bool, true, false, not, ◌&&◌, ◌||◌, true≢false}
 use native.Mathlib.Omega.{arith}
 use lib.Dec.{leb, eqb}
 use borrow.Author.Tests.{lt-leb, le-leb}
-use Rattle.book.proofs.steps.no_turn.Statement.{statement}
-use Rattle.book.proofs.steps.no_turn.Tie as tie
+use Rattle.book.proofs.steps.no_turn.Goals as goal
 
-returns : tie.Need-returns
+pub returns-then-w-lt1 : goal.returns-then-w-lt1
+returns-then-w-lt1 c =
+    let n = c.args.w.corners in
+    simp (lt-leb 1 n c.if-w-lt1.true, lt-leb 2 n (omega (arith, c.if-w-lt1.true)))
+
+pub returns-then-same_x-same_y : goal.returns-then-same_x-same_y
+returns-then-same_x-same_y c =
+    let n = c.args.w.corners in
+    simp (le-leb 1 n c.if-w-lt1.false, c.if-same_x-same_y.true)
+
+pub returns-then-w-lt2 : goal.returns-then-w-lt2
+returns-then-w-lt2 c =
+    let n = c.args.w.corners in
+    simp (le-leb 1 n c.if-w-lt1.false, c.if-same_x-same_y.false, lt-leb 2 n c.if-w-lt2.true)
+
+pub returns : goal.returns
 returns c =
-    let n = c.before.before.args.w.corners in
-    simp (lt-leb 1 n c.if1.true, lt-leb 2 n (omega (arith, c.if1.true)))
-
-returns-2 : tie.Need-returns-2
-returns-2 c =
-    let n = c.before.before.before.before.before.before.before.before.args.w.corners in
-    simp (le-leb 1 n c.before.before.before.before.before.before.if1.false, c.if2.true)
-
-returns-3 : tie.Need-returns-3
-returns-3 c =
-    let n = c.before.before.before.before.before.before.before.before.before.before.args.w.corners in
-    simp (le-leb 1 n c.before.before.before.before.before.before.before.before.if1.false, c.before.before.if2.false, lt-leb 2 n c.if3.true)
-
-returns-4 : tie.Need-returns-4
-returns-4 c =
-    let a = c.before.before.before.before.before.before.before.before.before.before.before.before.args in
+    let a = c.args in
     let n = a.w.corners in
     last a.w.upright (eqb a.w.last.x a.c.x) (eqb a.w.last.y a.c.y) (leb 1 n) (leb 2 n)
-    c.before.before.before.before.if2.false (le-leb 2 n c.before.before.if3.false)
+    c.if-same_x-same_y.false (le-leb 2 n c.if-w-lt2.false)
   where
     -- of the two coordinates one is the same, so that the other is not
     last : (u x y k l : Bool) → (x && y || not x && not y) ≡ false → l ≡ true
@@ -45,6 +44,3 @@ returns-4 c =
         go false false true false e = refl
         go false true false true e = refl
         go false false false true e = refl
-
-pub no-turn-spec : {M : Type 1} → statement M
-no-turn-spec = tie.close (tie.spec returns returns-2 returns-3 returns-4)
