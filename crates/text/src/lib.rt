@@ -1,6 +1,7 @@
 // The text of a plan, of a refusal (document 01, "Listing") and of a choice (document 02, C-17). Each piece is written into the rest of the text buffer behind the piece before
 // it. A writer puts as much of its text as there is room for at the front of what it is lent, and answers how many bytes that is.
 #![tactic(auto)]
+
 ghost use Rattle.std.specs.Prelude.{◌≡◌, [], ◌∷◌, ◌++◌, length, replicate};
 ghost use Rattle.std.specs.Int.{w32};
 ghost use Rattle.std.proofs.Common.{to_z};
@@ -254,8 +255,8 @@ pub fn list_plan(plan: &[u8], text: &mut [u8]) -> usize
 
 // Zeros, enough for every text of a plan with at most 32 runs, of a refusal and of a choice.
 pub fn buffer() -> [u8; 74837]
-    ensures value { result ≡ replicate 74837 0 }
-    ensures value_2 { 74837 ≡ length result }
+    ensures zeros { result ≡ replicate 74837 0 }
+    ensures size { 74837 ≡ length result }
 {
     [0; 74837]
 }
