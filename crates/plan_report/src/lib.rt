@@ -1,5 +1,6 @@
 // The listing of a stored plan: what reading its book says, as text (document 01, "Listing").
 #![tactic(auto)]
+
 ghost use Rattle.std.specs.Prelude.{◌≡◌, ◌≤◌, length, take};
 ghost use Rattle.book.specs.Parse.{parse_plan};
 ghost use Rattle.plan_report.specs.BookListed.{BookListed};
@@ -8,8 +9,8 @@ use book::Answer;
 
 // The text of the plan that a book holds, or of the refusal of the book, as much of it as there is room for, and how many bytes that is.
 pub fn list_book(book: &[u8], text: &mut [u8]) -> usize
-    ensures book_listed { BookListed (parse_plan book.now) text.old text.new result }
-    ensures upper_bound { (result ≤ length text.new) × (result ≡ length (take result text.new)) }
+    ensures listed { BookListed (parse_plan book.now) text.old text.new result }
+    ensures within { (result ≤ length text.new) × (result ≡ length (take result text.new)) }
 {
     let reading = book::read(book);
     let answer = reading.answer;
