@@ -13,4 +13,4 @@ returns c =
     let a = c.args in
     c.corner_in.ensures
     ∙ ap (λ (l : List ℕ). corner_by a.book.now l a.i a.j) (ap (λ (r : Reading). r.places) c.read-reading.ensures ∙ reading_places (parse_plan a.book.now))
-    ∙ corner_by_places a.book.now a.i (λ i. (c.shared_slice_known-1.given i).fits) a.j
+    ∙ corner_by_places a.book.now a.i (λ i. (c.type_inv.book i).fits) a.j

@@ -1,4 +1,5 @@
 -- `job_writer::number_before` meets its contract.
+use borrow.Author.Rules.{rules}
 use mathlib.Core.Path.{◌≡◌, refl, sym, ap, ◌∙◌}
 use Prim.Native.Nat.{suc, ◌-◌}
 use native.Mathlib.Omega.{arith}
@@ -13,4 +14,4 @@ pub returns : goal.returns
 returns c =
     let a = c.args in
     let e : a.i ≡ suc (a.i - 1) = omega (arith, c.if-i-eq0.false) in
-    word_back _ c.result-1.given ∙ ap (number_before a.runs.now) (sym e)
+    word_back _ (search rules) ∙ ap (number_before a.runs.now) (sym e)
