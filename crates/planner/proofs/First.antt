@@ -67,30 +67,30 @@ module _ (job : List ℕ) (words bytes : ℕ) (b : Bytes job) where
     job_in_lem = let (w, j) = (accepted_iff job number runs b).0 e in record { number = number; runs = runs; well_formed = w; written = j }
 
     first_1 : words < words_for (runs_of runs) → FirstOf (Applies job words bytes) ShortWork
-    first_1 h = record { applies = short_work job_in_lem h; first = λ y a s. not_first y (later y a) s }
+    first_1 h = record { applies = short_work job_in_lem h; first = λ y a s. not_first (later y a) s }
       where
-        not_first : (y : Refusal) → Later y → Sooner y ShortWork → ⊥
-        not_first ShortWork (words_few l) s = sooner_self ShortWork s
-        not_first ShortBuffer (bytes_few l) (by_stage o) = omega arith
-        not_first ShortBuffer (bytes_few l) (by_place o p) = omega arith
-        not_first ShortBuffer (bytes_few l) (by_turn o p q) = omega arith
-        not_first NoStar (ungrouped n) s = last_stage ShortWork s (omega arith)
+        not_first : {y : Refusal} → Later y → Sooner y ShortWork → ⊥
+        not_first (words_few l) s = sooner_self ShortWork s
+        not_first (bytes_few l) (by_stage o) = omega arith
+        not_first (bytes_few l) (by_place o p) = omega arith
+        not_first (bytes_few l) (by_turn o p q) = omega arith
+        not_first (ungrouped n) s = last_stage ShortWork s (omega arith)
 
     first_2 : words_for (runs_of runs) ≤ words → bytes < bytes_for (runs_of runs) → FirstOf (Applies job words bytes) ShortBuffer
-    first_2 h k = record { applies = short_plan job_in_lem k; first = λ y a s. not_first y (later y a) s }
+    first_2 h k = record { applies = short_plan job_in_lem k; first = λ y a s. not_first (later y a) s }
       where
-        not_first : (y : Refusal) → Later y → Sooner y ShortBuffer → ⊥
-        not_first ShortWork (words_few l) s = omega arith
-        not_first ShortBuffer (bytes_few l) s = sooner_self ShortBuffer s
-        not_first NoStar (ungrouped n) s = last_stage ShortBuffer s (omega arith)
+        not_first : {y : Refusal} → Later y → Sooner y ShortBuffer → ⊥
+        not_first (words_few l) s = omega arith
+        not_first (bytes_few l) s = sooner_self ShortBuffer s
+        not_first (ungrouped n) s = last_stage ShortBuffer s (omega arith)
 
     first_11 : words_for (runs_of runs) ≤ words → bytes_for (runs_of runs) ≤ bytes → (AreStars (runs_of runs) → ⊥) → FirstOf (Applies job words bytes) NoStar
-    first_11 h k n = record { applies = no_star job_in_lem n; first = λ y a s. not_first y (later y a) s }
+    first_11 h k n = record { applies = no_star job_in_lem n; first = λ y a s. not_first (later y a) s }
       where
-        not_first : (y : Refusal) → Later y → Sooner y NoStar → ⊥
-        not_first ShortWork (words_few l) s = omega arith
-        not_first ShortBuffer (bytes_few l) s = omega arith
-        not_first NoStar (ungrouped n) s = sooner_self NoStar s
+        not_first : {y : Refusal} → Later y → Sooner y NoStar → ⊥
+        not_first (words_few l) s = omega arith
+        not_first (bytes_few l) s = omega arith
+        not_first (ungrouped n) s = sooner_self NoStar s
 
     -- the verdict by its stages
     read_first : (x : Refusal) → verdict job words bytes ≡ refused x → FirstOf (Applies job words bytes) x
@@ -128,12 +128,12 @@ module _ (job : List ℕ) (words bytes : ℕ) (b : Bytes job) where
   accepted_none number runs v x a =
       let (h, k, d) = lent_enough job words bytes number runs v in
       let e = (judged_accepts (parse job) number runs d).0 in
-      none h k (job_star job b number runs d).2 x (later number runs e x a)
+      none h k (job_star job b number runs d).2 (later number runs e x a)
     where
-      none : {number : ℕ} {e : parse job ≡ accepted number runs} → words_for (runs_of runs) ≤ words → bytes_for (runs_of runs) ≤ bytes → AreStars (runs_of runs) → (x : Refusal) → Later number runs e x → ⊥
-      none h k s ShortWork (words_few l) = omega arith
-      none h k s ShortBuffer (bytes_few l) = omega arith
-      none h k s NoStar (ungrouped n) = n s
+      none : {number : ℕ} {e : parse job ≡ accepted number runs} → words_for (runs_of runs) ≤ words → bytes_for (runs_of runs) ≤ bytes → AreStars (runs_of runs) → {x : Refusal} → Later number runs e x → ⊥
+      none h k s (words_few l) = omega arith
+      none h k s (bytes_few l) = omega arith
+      none h k s (ungrouped n) = n s
 
   -- what applies stands in the order
   ordered : (x : Refusal) → Applies job words bytes x → InOrder x

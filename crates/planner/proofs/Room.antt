@@ -57,6 +57,8 @@ bytes_most l h =
 
 corners_within : (number meets centre : ℕ → ℕ) (g : Grid) (runs : List Run) (routes : List Route) (i : ℕ) → All TwoPoints runs → Routes g runs routes
     → 9 * length runs + 9 * total_corners (entries_from number meets centre i (map corners routes)) ≤ sum (λ r. 9 + 9 * (lines_at g r - 1)) runs
+corners_within number meets centre g [] (route ∷ routes) i two m = elim m [ ]
+corners_within number meets centre g (run ∷ runs) [] i two m = elim m [ ]
 corners_within number meets centre g [] [] i two m = omega arith
 corners_within number meets centre g (run ∷ runs) (route ∷ routes) i two m =
     omega (arith, corners_within number meets centre g runs routes (suc i) two.1 m.1, corners_touching g run route two.0 m.0)

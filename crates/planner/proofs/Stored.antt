@@ -40,6 +40,8 @@ entries_right : (number meets centre : ℕ → ℕ) → ((i : ℕ) → number i 
     → (g : Grid) (runs : List Run) (routes : List Route)
     → All TwoPoints runs → Routes g runs routes → All (All PointIn) (map corners routes) → All (λ c. length c ≤ 127) (map corners routes) → (i : ℕ)
     → All (RightEntry true) (entries_from number meets centre i (map corners routes))
+entries_right number meets centre h k l g [] (route ∷ routes) two m inside few i = elim m [ ]
+entries_right number meets centre h k l g (run ∷ runs) [] two m inside few i = elim m [ ]
 entries_right number meets centre h k l g [] [] two m inside few i = tt
 entries_right number meets centre h k l g (run ∷ runs) (route ∷ routes) two m inside few i = (
   record {

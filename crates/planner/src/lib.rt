@@ -1,5 +1,6 @@
 // The planner: a job's bytes into the bytes of a least plan.
 #![tactic(auto)]
+
 mod clear;
 pub mod codes;
 pub mod meetings;
