@@ -91,7 +91,7 @@ fn of_book(refusal: Refusal, place: usize) -> Refusal
 }
 
 // Whether a book of the job is true: its kinds, the figures of its runs, and what is measured on its routes.
-fn is_true_lem(book: &[u8], head: Head, places: &[u32; 33], known: Known) -> bool
+fn is_true(book: &[u8], head: Head, places: &[u32; 33], known: Known) -> bool
     requires { Knows known × ((es : List Entry) × ReadAs book.now places.now head es × (head.runs ≡ known.job.count)) }
     ensures { (es : List Entry) → ReadAs book.now places.now head es → result ≡ is_true (runs_in known.job) head es }
 {

@@ -1,5 +1,6 @@
 // The listing of a job: what the planner says of it, as text (document 01, "Listing").
 #![tactic(auto)]
+
 ghost use Rattle.std.specs.Prelude.{◌≡◌, ◌≤◌, length, take};
 ghost use Rattle.job.specs.Parse.{parse};
 ghost use Rattle.planner.specs.Verdict.{judged};

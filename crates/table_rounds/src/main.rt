@@ -36,7 +36,7 @@ fn line_at(bytes: &[u8; 1546], at: usize) -> Line
 }
 
 // The 64 lines from a place of the record on.
-fn lines_at_lem(bytes: &[u8; 1546], at: usize, lines: &mut [u32; 192])
+fn lines_at(bytes: &[u8; 1546], at: usize, lines: &mut [u32; 192])
     requires { (at + 768 ≤ 1546) × (length lines.old ≡ 192) }
     ensures { (length lines.new ≡ 192) × ((i : ℕ) → i < 64 → (line_in lines.new i).len ≤ 2000000) }
 {
@@ -99,8 +99,8 @@ fn main(rt: HostRuntime) -> io::Result<()> {
     let rounds = job::le32(&bytes, 0) % 1048576;
     let mut cols = [0u32; 192];
     let mut rows = [0u32; 192];
-    lines_at_lem(&bytes, 10, &mut cols);
-    lines_at_lem(&bytes, 778, &mut rows);
+    lines_at(&bytes, 10, &mut cols);
+    lines_at(&bytes, 778, &mut rows);
     let g = frame_of(&bytes);
     let mut work = [0u32; 16384];
     let sum = go_round(&mut work, &cols, &rows, g, rounds);

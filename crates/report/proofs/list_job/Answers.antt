@@ -1,0 +1,38 @@
+-- What the call of the planner says of the answer and of the plan buffer is the verdict on the job; each arm lists what it answers.
+use mathlib.Core.Path.{sym}
+use native.Mathlib.Omega.{arith}
+use lib.Seq.{length-take-le}
+use Rattle.report.proofs.Answered.{answered}
+use Rattle.report.proofs.Reported.{plan_within, plan_reported, refusal_reported}
+use Rattle.report.proofs.list_job.Goals as goal
+
+pub slice_bounds-out-end : goal.slice_bounds-out-end
+slice_bounds-out-end c =
+    let p = c.plan-answer in
+    let job = c.args.job.now in
+    omega (arith, plan_within job p.result p.new.work.1.0 (answered job p.result p.new.work.1.0 (λ i. (c.shared_slice_known-1.given i).fits) p.ensures.0) _ c.in-Planned.is)
+
+pub slice_bounds-list_plan-end : goal.slice_bounds-list_plan-end
+slice_bounds-list_plan-end c =
+    let p = c.plan-answer in
+    let job = c.args.job.now in
+    let h = plan_within job p.result p.new.work.1.0 (answered job p.result p.new.work.1.0 (λ i. (c.shared_slice_known-1.given i).fits) p.ensures.0) _ c.in-Planned.is in
+    sym (length-take-le _ p.new.work.1.0 (omega (arith, h)))
+
+pub returns-in-Planned : goal.returns-in-Planned
+returns-in-Planned c =
+    let l = c.list_plan.ensures in
+    let a = c.answer-1 in
+    let p = c.plan-answer in
+    let job = c.args.job.now in
+    let call = answered job p.result p.new.work.1.0 (λ i. (c.shared_slice_known-1.given i).fits) p.ensures.0 in
+    (plan_reported job p.result p.new.work.1.0 call _ _ _ (λ i. (c.shared_slice_known-1.given i).fits) _ a.given.1 l, (l.within, l.front))
+
+pub returns-in-Refused : goal.returns-in-Refused
+returns-in-Refused c =
+    let l = c.list_refusal.ensures in
+    let a = c.answer-in-Refused-1 in
+    let p = c.plan-answer in
+    let job = c.args.job.now in
+    let call = answered job p.result p.new.work.1.0 (λ i. (c.shared_slice_known-1.given i).fits) p.ensures.0 in
+    (refusal_reported job p.result p.new.work.1.0 call _ _ _ _ a.given.1 l, (l.within, l.front))
