@@ -1,5 +1,6 @@
 // Judges a plan book for a job (document 02, C-17): whether it is a book of the job, and true.
 #![tactic(auto)]
+
 mod compared;
 mod routes;
 

@@ -1,0 +1,73 @@
+use mathlib.Core.Path.{sym, ap, ap₂, ◌∙◌}
+use Prim.Native.Nat.{◌+◌, ◌-◌}
+use native.Mathlib.Omega.{arith}
+use lib.ListN.{length, take}
+use lib.Seq.{take_all}
+use Rattle.network.specs.Lists.{sum as total}
+use Rattle.network.specs.Plane.{distance, ◌to◌}
+use Rattle.network.specs.Route.{pieces}
+use Rattle.judge.proofs.Pieces.{length_more, first_corner, corner_read}
+use Rattle.judge.proofs.routes.route_length.Goals as goal
+
+pub loop-k-init : goal.loop-k-init
+loop-k-init c =
+    let (route, d, e) = c.requires in
+    (omega arith, omega (arith, d.some), omega arith, λ r dr er. sym (ap (λ l. total distance (pieces l)) (first_corner r dr.some)))
+
+pub overflow_sub-k : goal.overflow_sub-k
+overflow_sub-k c = omega (arith, c.loop-k.invariant.0)
+
+pub overflow_mul-k : goal.overflow_mul-k
+overflow_mul-k c = let (route, d, e) = c.requires in omega (arith, d.few)
+
+pub overflow_add-at : goal.overflow_add-at
+overflow_add-at c = let (route, d, e) = c.requires in omega (arith, d.within)
+
+pub corner_at-p-requires : goal.corner_at-p-requires
+corner_at-p-requires c = let (route, d, e) = c.requires in omega (arith, d.within)
+
+pub overflow_mul-k-in-loop-k : goal.overflow_mul-k-in-loop-k
+overflow_mul-k-in-loop-k c = let (route, d, e) = c.requires in omega (arith, d.few)
+
+pub overflow_add-at-in-loop-k : goal.overflow_add-at-in-loop-k
+overflow_add-at-in-loop-k c = let (route, d, e) = c.requires in omega (arith, d.within)
+
+pub corner_at-q-requires : goal.corner_at-q-requires
+corner_at-q-requires c = let (route, d, e) = c.requires in omega (arith, d.within)
+
+pub distance_of-sum-requires : goal.distance_of-sum-requires
+distance_of-sum-requires c =
+    let (route, d, e) = c.requires in
+    let l = c.loop-k in
+    let p = corner_read c.args.book.now c.args.at route d (l.k - 1) (omega arith) c.corner_at-p.result c.corner_at-p.ensures in
+    let q = corner_read c.args.book.now c.args.at route d l.k (omega arith) c.corner_at-q.result c.corner_at-q.ensures in
+    (p.1, p.2, q.1, q.2)
+
+pub overflow_add-sum : goal.overflow_add-sum
+overflow_add-sum c =
+    let (route, d, e) = c.requires in
+    omega (arith, d.few, c.distance_of-sum.ensures.1, c.loop-k.invariant.2)
+
+pub overflow_add-k : goal.overflow_add-k
+overflow_add-k c =
+    let (route, d, e) = c.requires in
+    omega (arith, d.few)
+
+pub loop-k-preserved : goal.loop-k-preserved
+loop-k-preserved c =
+    let l = c.loop-k in (
+      omega arith,
+      omega arith,
+      omega (arith, l.invariant.0, l.invariant.2, c.distance_of-sum.ensures.1),
+      λ route d e.
+          let p =
+          corner_read c.args.book.now c.args.at route d (l.k - 1) (omega arith) c.corner_at-p.result c.corner_at-p.ensures in
+          let q = corner_read c.args.book.now c.args.at route d l.k (omega arith) c.corner_at-q.result c.corner_at-q.ensures in
+          ap₂ ◌+◌ (l.invariant.3 route d e) (c.distance_of-sum.ensures.0 ∙ ap₂ (λ a b. distance (a to b)) p.0 q.0)
+          ∙ sym (length_more route l.k (omega arith) l.invariant.0),
+    )
+
+pub returns : goal.returns
+returns c = λ route d e.
+    let l = c.loop-k in
+    l.invariant.3 route d e ∙ ap (λ r. total distance (pieces r)) (take_all l.k route (omega arith))

@@ -1,0 +1,19 @@
+-- `judge::routes::route_length` meets its contract. The loop's invariant: the length of the pieces between the first k corners, which is at most 4,000,000 dm a piece.
+use mathlib.Core.Path.{◌≡◌}
+use Prim.Native.Nat.{◌*◌, ◌-◌, ◌≤◌, ◌<◌}
+use lib.ListN.{length, take}
+use Rattle.network.specs.Lists.{sum as total}
+use Rattle.network.specs.Plane.{distance, ◌to◌}
+use Rattle.network.specs.Route.{Route, pieces}
+use Rattle.judge.specs.Steps.{Drawn}
+use Rattle.judge.proofs.routes.route_length.Given as goal
+
+abbrev pub invariant-loop-k : goal.invariant-loop-k
+invariant-loop-k l =
+    (0 < l.k)
+    × (l.k ≤ l.n)
+    × (l.sum ≤ (l.k - 1) * 4000000)
+    × ((route : Route) → Drawn l.book l.at route → l.n ≡ length route → l.sum ≡ total distance (pieces (take l.k route)))
+
+abbrev pub decreases-loop-k : goal.decreases-loop-k
+decreases-loop-k l = l.n - l.k
