@@ -1,5 +1,6 @@
 // The contractor's book or ours (document 02, C-17): one of two plan books of a job, handed back as lent.
 #![tactic(auto)]
+
 ghost use Rattle.std.specs.Prelude.{◌≡◌};
 ghost use Rattle.job.specs.Parse.{accepted};
 ghost use Rattle.planner.specs.Verdict.{judged};
