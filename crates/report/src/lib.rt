@@ -12,7 +12,7 @@ use planner::Answer;
 // buffer are its own, enough for every job.
 pub fn list_job(job: &[u8], text: &mut [u8]) -> usize
     ensures reported { Reported (judged (parse job.now)) text.old text.new result }
-    ensures upper_bound { (result ≤ length text.new) × (result ≡ length (take result text.new)) }
+    ensures within { (result ≤ length text.new) × (result ≡ length (take result text.new)) }
 {
     let mut work = [0u32; 16384];
     let mut out = [0u8; 36886];
