@@ -1,5 +1,6 @@
 // The text of a choice between two plan books of a job: which of them is to be staked from, or the refusal (document 02, C-17).
 #![tactic(auto)]
+
 ghost use Rattle.std.specs.Prelude.{◌≡◌, ◌≤◌, length, take};
 ghost use Rattle.book.specs.Parse.{parse_plan};
 ghost use Rattle.choice.specs.Choice.{choice_of};
@@ -25,7 +26,7 @@ pub fn list_choice(job: &[u8], first: &[u8], second: &[u8], text: &mut [u8]) -> 
     ensures listed { Listed
         (choice_text (choice_of job.now first.now second.now) (trench_of (parse_plan first.now)) (trench_of (parse_plan second.now)))
         text.old text.new result }
-    ensures upper_bound { (result ≤ length text.new) × (result ≡ length (take result text.new)) }
+    ensures within { (result ≤ length text.new) × (result ≡ length (take result text.new)) }
 {
     let choice = choice::which(job, first, second);
     match choice {

@@ -1,6 +1,7 @@
 // The functions for C: what planning a job needs, planning it, writing a job book from its runs, reading a plan book, and choosing between two of them.
 // include/trench.h says what each is lent and leaves.
 #![tactic(auto)]
+
 ghost use Rattle.std.specs.Prelude.{◌≡◌, ℕ, length};
 ghost use Rattle.job.specs.Reading.{place_said};
 ghost use Rattle.job_writer.specs.Call.{call_of};
