@@ -16,7 +16,6 @@ returns-then-corner-lt2 c =
 
 pub returns : goal.returns
 returns c =
-    let p = c.found-1.given.0 in
-    let x = to_z-of_z w32 p.0 (record { sfits = c.in-Found.given.0.1 }) in
-    let y = to_z-of_z w32 p.1.0 (record { sfits = c.in-Found.given.1.0.1 }) in
+    let x = to_z-of_z w32 c.in-Found.x (record { sfits = c.in-Found.known_told-1-own.given.0.1 }) in
+    let y = to_z-of_z w32 c.in-Found.y (record { sfits = c.in-Found.known_told-1-own.given.1.0.1 }) in
     rw (ap spot_words (sym c.corner_in-found.ensures ∙ c.in-Found.is), x, y) (filled_sets _ _ c.if-corner-lt2.false)
