@@ -129,14 +129,12 @@ fn all_on_grid(
     if steps.len() < 4096 {
         return false;
     }
-    let mut i: usize = 0;
-    while i < count {
+    for i in 0..count {
         let track = route::track_of(x1[i], y1[i], x2[i], y2[i]);
         let from = i * 128;
         if !on_grid(track, &steps[from..]) {
             return false;
         }
-        i += 1;
     }
     true
 }
