@@ -40,11 +40,9 @@ fn lines_at(bytes: &[u8; 1546], at: usize, lines: &mut [u32; 192])
     requires { (at + 768 ≤ 1546) × (length lines.old ≡ 192) }
     ensures { (length lines.new ≡ 192) × ((i : ℕ) → i < 64 → (line_in lines.new i).len ≤ 2000000) }
 {
-    let mut i: usize = 0;
-    while i < 64 {
+    for i in 0..64 {
         let line = line_at(bytes, at + 12 * i);
         table::frame::put_line(lines, i, line);
-        i += 1;
     }
 }
 
@@ -75,12 +73,10 @@ fn go_round(work: &mut [u32], cols: &[u32; 192], rows: &[u32; 192], g: Frame, ro
     let mut steps = [0u8; 128];
     let mut shares = [0u8; 128];
     let mut sum: u32 = 0;
-    let mut i: u32 = 0;
-    while i < rounds {
+    for i in 0..rounds {
         table::fill::fill(work, cols, rows, g);
         table::trace::trace_of(&*work, cols, rows, g, &mut steps, &mut shares);
         sum = (sum + wide(shares[0]) + 64 * wide(steps[0])) % 65536;
-        i += 1;
     }
     sum
 }

@@ -16,8 +16,8 @@ loop-i-preserved c =
     let r = route_by c.args.steps.now c.args.track in
     let held : r.count ≤ length r.steps = omega arith in
     elim c.if-steps-i-eq0.branch [
-      then-steps-i-eq0 w ↦ (omega arith, omega (arith, across_more r held c.loop-i.i c.loop-i-test.true w.if-steps-i-eq0.true))
-    | else-steps-i-eq0 w ↦ (omega arith, omega (arith, across_same r held c.loop-i.i c.loop-i-test.true w.if-steps-i-eq0.false))
+      | then-steps-i-eq0 w ↦ (omega arith, omega (arith, across_more r held c.loop-i.i c.loop-i-test.true w.if-steps-i-eq0.true))
+      | else-steps-i-eq0 w ↦ (omega arith, omega (arith, across_same r held c.loop-i.i c.loop-i-test.true w.if-steps-i-eq0.false))
     ]
 
 pub returns : goal.returns
