@@ -1,7 +1,7 @@
 // What the programs read and write: standard input and output, files by name, and arguments.
 #![tactic(auto)]
 
-ghost use Rattle.std.specs.Prelude.{◌≡◌, ◌/◌, ◌%◌, ◌<◌, ◌≤◌, [], ◌∷◌, length, take, IfOk, IsOk, IsErr};
+ghost use Rattle.std.specs.Prelude.{◌≡◌, ℕ, ◌/◌, ◌%◌, ◌<◌, ◌≤◌, List, [], ◌∷◌, ◌++◌, length, take, IfOk, OnOk, OnErr, IsOk, IsErr};
 ghost use Rattle.std.specs.Fmt.{decimal};
 ghost use Rattle.std.specs.Io.{ReadsAtMost};
 ghost use Rattle.console.specs.Digits.{digit_letter};
@@ -68,6 +68,7 @@ impl<W: Write> Output<W> {
     // Writes all of the text.
     pub fn put(&mut self, text: &[u8])
         ensures written { IsOk self.new.outcome → Appends (W.contents self.old.to) (W.contents self.new.to) text.now }
+        ensures whole { IsOk self.new.outcome → IsOk self.old.outcome }
         ensures ended { IsErr self.old.outcome → self.new ≡ self.old }
     {
         if self.outcome.is_ok() {
@@ -94,20 +95,31 @@ impl<W: Write> Output<W> {
         self.put(&[digit(b / 16), digit(b % 16)]);
     }
 
-    // Writes a line that says what failed and why.
+    // Writes a line that says what failed and why: a colon, and the error's text, less its number. Where memory runs out, nothing is written.
     pub fn put_error(&mut self, alloc: Global, what: &[u8], error: io::Error) -> io::Result<()>
-        ensures { IsErr self.old.outcome → self.new ≡ self.old }
+        ensures written { OnOk result (IsOk self.new.outcome → (why : List ℕ)
+            × Appends (W.contents self.old.to) (W.contents self.new.to) (what.now ++ 58 ∷ 32 ∷ why ++ 10 ∷ [])) }
+        ensures kept { OnErr result (self.new ≡ self.old) }
+        ensures ended { IsErr self.old.outcome → self.new ≡ self.old }
     {
         let text = format!(in alloc; "{error}")?;
         let (why, _) = text
             .as_str()
             .split_once(" (os error ")
             .unwrap_or((text.as_str(), ""));
+        self.put_reason(what, why.as_bytes());
+        Ok(())
+    }
+
+    fn put_reason(&mut self, what: &[u8], why: &[u8])
+        ensures written { IsOk self.new.outcome
+            → Appends (W.contents self.old.to) (W.contents self.new.to) (what.now ++ 58 ∷ 32 ∷ why.now ++ 10 ∷ []) }
+        ensures ended { IsErr self.old.outcome → self.new ≡ self.old }
+    {
         self.put(what);
         self.put(b": ");
-        self.put(why.as_bytes());
+        self.put(why);
         self.put(b"\n");
-        Ok(())
     }
 
     // The error of the write that failed, if one did.
