@@ -1,6 +1,5 @@
 -- What is told of the job are the figures of its plans; the lines are those of its grid.
 use mathlib.Core.Path.{refl, sym, ap, ◌∙◌}
-use Prim.Native.Nat.{◌≤◌}
 use Rattle.network.specs.Lists.{sum}
 use Rattle.network.specs.Plane.{distance}
 use Rattle.network.specs.Hanan.{hanan}

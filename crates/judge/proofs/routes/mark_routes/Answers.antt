@@ -1,15 +1,15 @@
 use mathlib.Core.Path.{◌≡◌, refl, sym, ap, ◌∙◌, subst}
-use mathlib.Core.Bool.{Bool, true, false, false≢true}
+use mathlib.Core.Bool.{true, false, false≢true}
 use mathlib.Core.List.{List}
-use Prim.Native.Nat.{ℕ, ◌-◌, ◌<◌}
+use Prim.Native.Nat.{ℕ, ◌<◌}
 use native.Mathlib.Omega.{arith}
-use lib.ListN.{length, take, length-map, length-replicate}
+use lib.ListN.{length, length-map, length-replicate}
 use lib.Seq.{take_all}
 use Rattle.network.specs.Lists.{every}
 use Rattle.network.specs.Plane.{Run}
 use Rattle.network.specs.Hanan.{hanan}
 use Rattle.network.specs.Route.{Route}
-use Rattle.network.specs.Graph.{run_at, below}
+use Rattle.network.specs.Graph.{below}
 use Rattle.intersection.proofs.Finding.{every_on, every_off}
 use Rattle.grid.proofs.Hanan.{run_at_lem, run_placed}
 use Rattle.plan.specs.Plan.{Entry}

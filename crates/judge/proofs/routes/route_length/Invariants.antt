@@ -3,7 +3,7 @@ use mathlib.Core.Path.{◌≡◌}
 use Prim.Native.Nat.{◌*◌, ◌-◌, ◌≤◌, ◌<◌}
 use lib.ListN.{length, take}
 use Rattle.network.specs.Lists.{sum as total}
-use Rattle.network.specs.Plane.{distance, ◌to◌}
+use Rattle.network.specs.Plane.{distance}
 use Rattle.network.specs.Route.{Route, pieces}
 use Rattle.judge.specs.Steps.{Drawn}
 use Rattle.judge.proofs.routes.route_length.Given as goal

@@ -1,8 +1,7 @@
 use mathlib.Core.Path.{◌≡◌, refl}
-use Prim.Native.Nat.{◌-◌}
 use native.Mathlib.Omega.{arith}
 use borrow.Author.Fill.{fill_none, fill_more}
-use lib.ListN.{length, length-set}
+use lib.ListN.{length-set}
 use Rattle.planner.proofs.clear.clear_first.Goals as goal
 
 pub loop-i-init : goal.loop-i-init
