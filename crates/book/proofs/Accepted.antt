@@ -166,7 +166,7 @@ module _ (s : List ℕ) (b : Bytes s) where
   spot_at_lem : (at : ℕ) (w : Walk) (p : Point) → CornerAt s at w p → as_spot (record_of (drop at s)) ≡ spot.Found (decimetres p.x) (decimetres p.y)
   spot_at_lem at w p k =
       let f = rw k.is at (record_fits (drop at s) (bytes_drop at s b)) in
-      let (x_in, y_in) = and_split (leb p.x 2000000) (leb p.y 2000000) k.in_range_lem in
+      let (x_in, y_in) = and_split (leb p.x 2000000) (leb p.y 2000000) k.in_range in
       ap as_spot k.is
       ∙ λ i. spot.Found
       ((signed_decimetres k.across f.0 (omega (arith, k.x_is, leb-true p.x 2000000 x_in)) ∙ ap decimetres (sym k.x_is)) i)

@@ -54,7 +54,7 @@ module _ (s : List ℕ) where
     pub is : record_of (drop at s) ≡ rec.Corner across upward
     pub x_is : p.x ≡ biased_of across
     pub y_is : p.y ≡ biased_of upward
-    pub in_range_lem : in_range (record { x = p.x; y = p.y }) ≡ true
+    pub in_range : in_range (record { x = p.x; y = p.y }) ≡ true
     pub turns : no_turn w (record { x = p.x; y = p.y }) ≡ false
 
   -- corners, one behind the other
@@ -113,7 +113,7 @@ module _ (s : List ℕ) where
             is = k.is;
             x_is = ap (λ (q : Corner). q.x) k.biased;
             y_is = ap (λ (q : Corner). q.y) k.biased;
-            in_range_lem = k.in_range_lem;
+            in_range = k.in_range;
             turns = k.turns;
           },
           t.corners,

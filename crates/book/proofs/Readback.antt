@@ -174,7 +174,7 @@ tail_back g (e ∷ es) total t r (suc f) at w kinds l m =
     ∙ ap (with_route e.number e.meets n e.centre)
     (corners_back g es total (tail_back g es total t r.1) e.corners f (at + size) (begun w) kinds
     (omega (arith, ap length s, length-append head b, route_length g e.number e.meets n e.centre, route_size_lem g)) (omega arith) (omega arith)
-    (omega (arith, q.few)) q.in_range_lem (passes_all (begun w) e.corners refl q.turning))
+    (omega (arith, q.few)) q.in_range (passes_all (begun w) e.corners refl q.turning))
 
 -- ---- the counts
 

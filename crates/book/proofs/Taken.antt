@@ -73,7 +73,7 @@ pub record TookCorner (b : List ℕ) (w : Walk) (g : Record) (c : Corner) : Type
   pub long : 9 ≤ length b
   pub begun : 0 < w.routes
   pub room : w.corners < 127
-  pub in_range_lem : in_range c ≡ true
+  pub in_range : in_range c ≡ true
   pub turns : no_turn w c ≡ false
 
 -- an end, behind which no byte stands
@@ -114,7 +114,7 @@ took_by at w b (rec.Corner x y) l =
       long = l.0;
       begun = omega (arith, n);
       room = leb-false 127 w.corners few;
-      in_range_lem = not-false _ r;
+      in_range = not-false _ r;
       turns = t;
     })))
 took_by at w b (rec.End total) l =

@@ -154,7 +154,7 @@ module _ (s : List ℕ) where
   unfolding CornersAt
   corners_in_lem at w [] t = tt
   corners_in_lem at w (p ∷ l) t =
-      let (a, b) = and_split (leb p.x 2000000) (leb p.y 2000000) t.0.in_range_lem in
+      let (a, b) = and_split (leb p.x 2000000) (leb p.y 2000000) t.0.in_range in
       (record { x_in = leb-true p.x 2000000 a; y_in = leb-true p.y 2000000 b }, corners_in_lem (at + 9) _ l t.1)
 
   -- the corners behind two of a route turn
@@ -198,7 +198,7 @@ module _ (s : List ℕ) where
           centre_fits = fits.2;
           some = a.0.some;
           few = r.0.few;
-          in_range_lem = corners_in_lem (at + size) (begun w) t.entry.corners r.0.corners;
+          in_range = corners_in_lem (at + size) (begun w) t.entry.corners r.0.corners;
           turning = turning_all (at + size) (begun w) t.entry.corners refl r.0.corners;
         },
         rw (after_grouped (begun w) t.entry.corners) at (entries_right b (behind w.grouped at t.entry) v ts r.1 a.1),

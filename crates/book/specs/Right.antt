@@ -32,7 +32,7 @@ pub record RightEntry (grouped : Bool) (e : Entry) : Type 0 where
   pub centre_fits : CentreFits grouped e.centre
   pub some : 0 < length e.corners
   pub few : length e.corners ≤ 127
-  pub in_range_lem : All PointIn e.corners
+  pub in_range : All PointIn e.corners
   pub turning : Turning e.corners
 
 -- a book: at most 32 entries, and the head says how many. Whose job it is, and whether the figures are right, is not judged.

@@ -127,7 +127,7 @@ module _ (job book : List ℕ) (number : ℕ) (runs : List Read) (e : judged (pa
         number = number;
         runs = runs;
         job_is = e;
-        is_true_lem = ours;
+        is_true = ours;
         never_refused = λ second x k. refused_second ours.head.trench (judgement_of number runs 2 (parse_plan second)) x (sym (second_decides second) ∙ k);
         never_second =
             λ second k.

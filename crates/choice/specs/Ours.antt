@@ -38,11 +38,11 @@ pub record Stays (job book : List ℕ) : Type 0 where
   pub runs : List Read
   pub job_is : judged (parse job) ≡ accepted number runs
   -- it is true
-  pub is_true_lem : TrueBook number runs book
+  pub is_true : TrueBook number runs book
   -- the call is refused because of the second book alone, ..
   pub never_refused : (second : List ℕ) (x : Refusal) → choice_of job book second ≡ Refused x → judgement_of number runs 2 (parse_plan second) ≡ is.Refused x
   -- .. never hands the second back, and hands ours back whatever true book comes second;
   pub never_second : (second : List ℕ) → choice_of job book second ≡ Second → ⊥
   pub kept : (second : List ℕ) → TrueBook number runs second → choice_of job book second ≡ First
   -- so a book with less trench than ours is never true
-  pub less_untrue : (second : List ℕ) (t : TrueBook number runs second) → t.head.trench < is_true_lem.head.trench → ⊥
+  pub less_untrue : (second : List ℕ) (t : TrueBook number runs second) → t.head.trench < is_true.head.trench → ⊥

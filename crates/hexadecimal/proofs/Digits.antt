@@ -8,7 +8,7 @@ use native.Mathlib.Decide.{dec_le}
 use native.Mathlib.Omega.{arith}
 use borrow.Author.Tests.{le-leb, lt-leb}
 use lib.ListN.{length, take, drop, set, get_or, length-set}
-use lib.Seq.{take_all, length-take-le, paste, paste-zero, paste-suc}
+use lib.Seq.{take_all, length-take-le, paste, paste-suc}
 use Rattle.hexadecimal.proofs.Counting.{prefix_len_of_le}
 use Rattle.hexadecimal.specs.Digits.{digit_of, bytes_of, Unhexed}
 

@@ -16,7 +16,7 @@ use Rattle.refusal.specs.declared.Refusal.TheVariants.{Cut, UnknownKind, Misplac
 use Rattle.job.specs.declared.Step.{Step}
 use Rattle.job.specs.declared.Step.TheVariants.{Next, End, Refuse}
 use Rattle.refusal.specs.Refusal.{refusal_place}
-use Rattle.job.specs.Applies.{Kind, head, run, end, byte_of, Whole, Behind, AppliesIn, cut_inside, cut_before_end, unknown_kind, no_head_lem, second_head, after_end, wrong_count, number_zero, number_above, not_rising, out_of_range, run_33, coincident}
+use Rattle.job.specs.Applies.{Kind, head, run, end, byte_of, Whole, Behind, AppliesIn, cut_inside, cut_before_end, unknown_kind, no_head, second_head, after_end, wrong_count, number_zero, number_above, not_rising, out_of_range, run_33, coincident}
 use Rattle.job.specs.Order.{turn_of, Sooner, by_stage, by_place, by_turn, FirstOf}
 use Rattle.job.specs.Records.{record_of}
 use Rattle.job.specs.Parse.{Parsed, accepted, refused, step_of, with_first, proceed, read_from, first_by, parse}
@@ -67,7 +67,7 @@ at_first : (s : List ℕ) (x : Refusal) → AppliesIn s x → refusal_place x �
 at_first s x (cut_inside {p} k b h l) e = let c : CutAt s p = inside k h l in cut refl (rw e at c)
 at_first s x (cut_before_end b) e = cut refl (before_end (sym e))
 at_first s x (unknown_kind {p} b l f) e = let u : UnknownAt s p = record { within = l; none = f } in unknown refl (rw e at u)
-at_first s x (no_head_lem l f) e = rest (omega arith)
+at_first s x (no_head l f) e = rest (omega arith)
 at_first s x (second_head b h) e = rest (omega arith)
 at_first s x (after_end b h l) e = rest (omega arith)
 at_first s x (wrong_count b h d) e = not_first s _ _ b e
@@ -91,7 +91,7 @@ module _ (s : List ℕ) where
   -- a whole record of another kind than a head
   other_first : (k : Kind) → (byte_of k ≡ byte_of head → ⊥) → Whole k s 0 → FirstOf (AppliesIn s) (Misplaced 0)
   other_first k f w =
-      first_first (Misplaced 0) refl (no_head_lem w.0.0 (λ e. f (sym w.0.1 ∙ e)))
+      first_first (Misplaced 0) refl (no_head w.0.0 (λ e. f (sym w.0.1 ∙ e)))
       (least_five s 0 k w)
 
   -- behind the head, before any run

@@ -11,7 +11,7 @@ use lib.ListN.{length, get_or}
 use Rattle.refusal.specs.declared.Refusal.{Refusal}
 use Rattle.refusal.specs.declared.Refusal.TheVariants.{Cut, UnknownKind, Misplaced, WrongCount, WrongNumber, OutOfRange, TooManyRuns, Coincident}
 use Rattle.refusal.specs.Refusal.{refusal_place}
-use Rattle.job.specs.Applies.{head, run, end, Starts, Whole, place, Behind, number_at, coordinate_at, AppliesIn, cut_inside, cut_before_end, unknown_kind, no_head_lem, second_head, after_end, wrong_count, number_zero, number_above, not_rising, out_of_range, run_33, coincident}
+use Rattle.job.specs.Applies.{head, run, end, Starts, Whole, place, Behind, number_at, coordinate_at, AppliesIn, cut_inside, cut_before_end, unknown_kind, no_head, second_head, after_end, wrong_count, number_zero, number_above, not_rising, out_of_range, run_33, coincident}
 use Rattle.job.specs.Order.{stage_of, turn_of, Sooner, by_stage, by_place, by_turn, FirstOf}
 use Rattle.job.specs.Written.{Coincide}
 use Rattle.job.proofs.Decoded.{CutAt, inside, before_end, UnknownAt}
@@ -79,7 +79,7 @@ found s w x (cut_before_end (inl e)) = absurd (omega (arith, w.1))
 found s w x (cut_before_end (inr (n, b))) = nth n _ b refl (cut_here (before_end refl))
 found s w x (unknown_kind (inl e) l f) = absurd (f head (ap (λ (i : ℕ). get_or s i 0) e ∙ w.0.1))
 found s w x (unknown_kind (inr (n, b)) l f) = nth n _ b refl (unknown_here (record { within = l; none = f }))
-found s w x (no_head_lem l f) = absurd (f w.0.1)
+found s w x (no_head l f) = absurd (f w.0.1)
 found s w x (second_head b h) = nth _ _ b refl (head_here h)
 found s w x (after_end b h l) = after _ _ b h refl l
 found s w x (wrong_count b h d) = nth _ _ b refl (count_here h d)
@@ -95,7 +95,7 @@ pub one_stage : (s : List ℕ) (x : Refusal) → AppliesIn s x → stage_of x �
 one_stage s x (cut_inside k b h l) = refl
 one_stage s x (cut_before_end b) = refl
 one_stage s x (unknown_kind b l f) = refl
-one_stage s x (no_head_lem l f) = refl
+one_stage s x (no_head l f) = refl
 one_stage s x (second_head b h) = refl
 one_stage s x (after_end b h l) = refl
 one_stage s x (wrong_count b h d) = refl

@@ -51,8 +51,8 @@ rising_from last (r ∷ runs) range apart order up =
 
 -- a well formed job's runs rise from above 0
 pub well_formed_rising : (number : ℕ) (runs : List Run) → WellFormed number runs → Rising 0 runs
-well_formed_rising number runs w = rising_from 0 runs w.in_range_lem w.apart w.rising (λ h. (w.in_range_lem 0 h).least)
+well_formed_rising number runs w = rising_from 0 runs w.in_range w.apart w.rising (λ h. (w.in_range 0 h).least)
 
 -- runs that rise from above 0 are a well formed job's
 pub rising_well_formed : (number : ℕ) (runs : List Run) → number < 2 ^ 32 → length runs ≤ 32 → Rising 0 runs → WellFormed number runs
-rising_well_formed number runs f m h = record { fits = f; most = m; in_range_lem = rising_range h; apart = rising_apart h; rising = rising_order h }
+rising_well_formed number runs f m h = record { fits = f; most = m; in_range = rising_range h; apart = rising_apart h; rising = rising_order h }

@@ -7,7 +7,7 @@ use native.Mathlib.Omega.{arith}
 use lib.ListN.{length}
 use Rattle.refusal.specs.declared.Refusal.{Refusal}
 use Rattle.refusal.specs.Refusal.{refusal_place}
-use Rattle.job.specs.Applies.{Begins, AppliesIn, cut_inside, cut_before_end, unknown_kind, no_head_lem, second_head, after_end, wrong_count, number_zero, number_above, not_rising, out_of_range, run_33, coincident}
+use Rattle.job.specs.Applies.{Begins, AppliesIn, cut_inside, cut_before_end, unknown_kind, no_head, second_head, after_end, wrong_count, number_zero, number_above, not_rising, out_of_range, run_33, coincident}
 use Rattle.job.proofs.There.{behind_within}
 
 -- a record begins among the bytes, or behind the last
@@ -20,7 +20,7 @@ pub applies_within : (s : List ℕ) (x : Refusal) → AppliesIn s x → refusal_
 applies_within s x (cut_inside k b h l) = begins_within s _ b
 applies_within s x (cut_before_end b) = begins_within s _ b
 applies_within s x (unknown_kind b l f) = begins_within s _ b
-applies_within s x (no_head_lem l f) = omega arith
+applies_within s x (no_head l f) = omega arith
 applies_within s x (second_head b h) = behind_within s _ _ b
 applies_within s x (after_end b h l) = omega arith
 applies_within s x (wrong_count b h d) = behind_within s _ _ b

@@ -57,7 +57,7 @@ pub data AppliesIn (s : List ℕ) : Refusal → Type 0 where
   -- 4: "unknown kind"
   unknown_kind : {p : ℕ} → Begins s p → p < length s → ((k : Kind) → get_or s p 0 ≡ byte_of k → ⊥) → AppliesIn s (UnknownKind p)
   -- 5: "first record no head, a second head, or a byte after the end record (that byte's place; it isn't read further)"
-  no_head_lem : 0 < length s → (get_or s 0 0 ≡ byte_of head → ⊥) → AppliesIn s (Misplaced 0)
+  no_head : 0 < length s → (get_or s 0 0 ≡ byte_of head → ⊥) → AppliesIn s (Misplaced 0)
   second_head : {n p : ℕ} → Behind s n p → Starts head s p → AppliesIn s (Misplaced p)
   after_end : {n p : ℕ} → Behind s n p → Whole end s p → p + size_of end < length s → AppliesIn s (Misplaced (p + size_of end))
   -- 6: "the end's count differs from the runs read"

@@ -51,6 +51,6 @@ Coincide r = (r.x1 ≡ r.x2) × (r.y1 ≡ r.y2)
 pub record WellFormed (number : ℕ) (runs : List Run) : Type 0 where
   pub fits : number < 2 ^ 32
   pub most : length runs ≤ 32
-  pub in_range_lem : (k : ℕ) → k < length runs → InRange (get_or runs k no_run)
+  pub in_range : (k : ℕ) → k < length runs → InRange (get_or runs k no_run)
   pub apart : (k : ℕ) → k < length runs → Coincide (get_or runs k no_run) → ⊥
   pub rising : (j k : ℕ) → j < k → k < length runs → (get_or runs j no_run).number < (get_or runs k no_run).number

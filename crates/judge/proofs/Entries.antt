@@ -147,6 +147,6 @@ module _ (book places : List ℕ) (h : Head) (es : List Entry) (R : ReadAs book 
             few = right.few;
             x_is = λ j l. (there j l).1;
             y_is = λ j l. (there j l).2;
-            in_range_lem = λ j l. all_member PointIn right.in_range_lem (index_member origin cs j l);
+            in_range = λ j l. all_member PointIn right.in_range (index_member origin cs j l);
             straight = turning_straight cs right.turning;
           }

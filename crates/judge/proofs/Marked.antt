@@ -96,7 +96,7 @@ plane_of j = runs_held j.x1 j.y1 j.x2 j.y2 j.count
 
 -- run i is in range
 pub run_in_range : (j : Job) → Held j → (i : ℕ) → i < j.count → InRange (run_in j i)
-run_in_range j h i l = subst InRange (held_at j i l) (h.well_formed.in_range_lem i (omega (arith, length_held j)))
+run_in_range j h i l = subst InRange (held_at j i l) (h.well_formed.in_range i (omega (arith, length_held j)))
 
 -- the record of each route is there, and says at most 127 corners
 pub routes_there : (book places : List ℕ) (n : ℕ) (h : Head) (es : List Entry) → ReadAs book places h es → h.runs ≡ n → h.grouped ≡ true

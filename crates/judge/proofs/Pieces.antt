@@ -99,4 +99,4 @@ pub corner_read : (book : List ℕ) (at : ℕ) (route : Route) → Drawn book at
 corner_read book at route d j h c e =
     let x : c.x ≡ (get_or route j origin).x = ap (λ (k : Corner). k.x) e ∙ d.x_is j h in
     let y : c.y ≡ (get_or route j origin).y = ap (λ (k : Corner). k.y) e ∙ d.y_is j h in
-    (point_path x y, omega (arith, (d.in_range_lem j h).x_in), omega (arith, (d.in_range_lem j h).y_in))
+    (point_path x y, omega (arith, (d.in_range j h).x_in), omega (arith, (d.in_range j h).y_in))

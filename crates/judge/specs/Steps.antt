@@ -57,7 +57,7 @@ pub record Drawn (book : List ℕ) (at : ℕ) (route : Route) : Type 0 where
   pub few : length route ≤ 127
   pub x_is : (j : ℕ) → j < length route → (corner_there book (at + 9 * j)).x ≡ (get_or route j origin).x
   pub y_is : (j : ℕ) → j < length route → (corner_there book (at + 9 * j)).y ≡ (get_or route j origin).y
-  pub in_range_lem : (j : ℕ) → j < length route → PointIn (get_or route j origin)
+  pub in_range : (j : ℕ) → j < length route → PointIn (get_or route j origin)
   pub straight : (j : ℕ) → suc j < length route → Straight (get_or route j origin to get_or route (suc j) origin)
 
 -- a route of so many corners, on a grid whose lines stand in tables

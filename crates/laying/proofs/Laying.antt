@@ -198,7 +198,7 @@ module _ (runs : List Run) (xs ys : Side) (n : ℕ) (centres sets : List ℕ) (L
                   exact = D.exact;
                   says = D.says;
                   traced = D.traced;
-                  drawn_by_lem = λ k l z. mapped_at (drawn_of (hanan runs)) layout.routes k (route 0) [] (rw full l)
+                  drawn_by = λ k l z. mapped_at (drawn_of (hanan runs)) layout.routes k (route 0) [] (rw full l)
                       ∙ ap (drawn_of (hanan runs)) (routes_at bytes stride tracks n k (route 0) (of_list k l))
                       ∙ ap (drawn (hanan runs) (columns_of (route k)) (rows_of (route k)))
                       ((laid k l c h e z).goes ∙ steps_lifted (hanan runs) runs xs ys c (get_or sets c 0) (sides c h) (lines_few c m) D.moves h k l

@@ -86,7 +86,7 @@ module _ (g : Grid) (runs : List Run) (firsts seconds : ℕ → Dir → ℕ)
             exact = filled_exact (star_in c);
             says = refl;
             traced = traced (star_in c) (filled (star_in c)) (filled_exact (star_in c));
-            drawn_by_lem = λ k l z. get_or_table route (length runs) k [] l ∙ ap (λ c. by c k) z;
+            drawn_by = λ k l z. get_or_table route (length runs) k [] l ∙ ap (λ c. by c k) z;
           },
         )),
       )

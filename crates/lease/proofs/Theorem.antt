@@ -58,7 +58,7 @@ module _ (g : Grid) (runs : List Run) (centre : ℕ → ℕ) (S : Stars (meets g
         let c = centre k in
         let (s, D) = all c (S.listed k h) (S.own k h) in
         group_goes (view_by g runs s) runs s.box c D.centred s.table s.moves D.traced X Y frames routes k (part (ℕ_discrete k c))
-        (D.drawn_by_lem k h refl)
+        (D.drawn_by k h refl)
       where
         part : Dec (k ≡ centre k) → (k ≡ centre k) ⊎ (meets g runs (centre k) k ≡ true)
         part (yes e) = inl e
@@ -72,5 +72,5 @@ module _ (g : Grid) (runs : List Run) (centre : ℕ → ℕ) (S : Stars (meets g
         rw (← D.says) (group_most (view_by g runs s) runs s.box c D.centred s.table D.exact others o))
         routes (routes_of_lem g runs routes count lease_goes)
         (λ c h e. let (s, D) = all c h e in
-        rw (← D.says) (group_saves (view_by g runs s) runs s.box c D.centred s.table s.moves D.traced X Y frames routes (D.drawn_by_lem c h e)
-        (λ k t. let (l, z, n) = leaf_of g runs centre S c k h e t in D.drawn_by_lem k l z)))
+        rw (← D.says) (group_saves (view_by g runs s) runs s.box c D.centred s.table s.moves D.traced X Y frames routes (D.drawn_by c h e)
+        (λ k t. let (l, z, n) = leaf_of g runs centre S c k h e t in D.drawn_by k l z)))

@@ -39,4 +39,4 @@ module _ (g : Grid) (runs : List Run) where
     pub exact : Exact (star_by s c) s.table
     pub says : figure (star_by s c) s.table ≡ size
     pub traced : Traced (star_by s c) s.table s.moves
-    pub drawn_by_lem : (k : ℕ) → k < length runs → centre k ≡ c → route_at routes k ≡ drawn g (X k) (Y k) (steps_of (star_by s c) c s.moves k)
+    pub drawn_by : (k : ℕ) → k < length runs → centre k ≡ c → route_at routes k ≡ drawn g (X k) (Y k) (steps_of (star_by s c) c s.moves k)

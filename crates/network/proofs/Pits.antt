@@ -220,7 +220,7 @@ module _ (g : Grid) (runs : List Run) (routes : List Route) (m : Routes g runs r
         one_in = hu;
         other_in = hv;
         two = λ e. one_way g run r p n h (subst (λ t. any (passes ver p) (pieces t) ≡ true) (sym ev ∙ ap (λ w. get_or routes w []) (sym e) ∙ eu) k);
-        along_row_lem = rw eu h;
+        along_row = rw eu h;
         along_column = rw ev k;
       }
 
@@ -255,7 +255,7 @@ is_pit routes p h = pit_among routes p ∙ or_join (any (among p) routes) (passe
 
     go : (any (among p) routes ≡ true) ⊎ Crossed routes p → (any (among p) routes ≡ true) ⊎ (passed hor routes p && passed ver routes p ≡ true)
     go (inl c) = inl c
-    go (inr c) = inr (and_join (passed hor routes p) (passed ver routes p) (some hor c.one c.one_in c.along_row_lem) (some ver c.other c.other_in c.along_column))
+    go (inr c) = inr (and_join (passed hor routes p) (passed ver routes p) (some hor c.one c.one_in c.along_row) (some ver c.other c.other_in c.along_column))
 
 -- there are at least as many pits as distinct corners
 pub pits_least : (routes : List Route) → length (unique same_point (flatten routes)) ≤ pits_of routes

@@ -21,5 +21,5 @@ pub record Crossed (routes : List Route) (p : Point) : Type 0 where
   pub one_in : one < length routes
   pub other_in : other < length routes
   pub two : one ≡ other → ⊥
-  pub along_row_lem : any (passes hor p) (pieces (get_or routes one [])) ≡ true
+  pub along_row : any (passes hor p) (pieces (get_or routes one [])) ≡ true
   pub along_column : any (passes ver p) (pieces (get_or routes other [])) ≡ true

@@ -61,7 +61,7 @@ module _ (number : ℕ) (runs : List Read) (w : WellFormed number runs) (routes 
   read_least : (head : Head) (es : List Entry) → HeadFits head → All (All PointIn) (map (λ e. e.corners) es) → book_bytes head es ≡ plan_of number runs routes
       → LeastPlan runs head es
   unfolding plan_bytes drawn_bytes
-  read_least head es fits in_range_lem e =
+  read_least head es fits in_range e =
       let g = hanan (runs_of runs) in
       let own = own_routes routes in
       let number_of : ℕ → ℕ = λ i. get_or (numbers_of runs) i 0 in
@@ -70,8 +70,8 @@ module _ (number : ℕ) (runs : List Read) (w : WellFormed number runs) (routes 
       (head_fits number runs w routes l.are_routes) e in
       let o = entries_corners number_of (meets_of (runs_of runs)) (centre_figure (numbers_of runs) (runs_of runs)) 0 own in
       let c : map (λ e. e.corners) es ≡ own
-      = book_corners head (head_of number (runs_of runs) own) es (entries_from number_of (meets_of (runs_of runs)) (centre_figure (numbers_of runs) (runs_of runs)) 0 own) in_range_lem
-      (rw o (corners_in_lem runs w.in_range_lem routes l.are_routes)) e ∙ o in
+      = book_corners head (head_of number (runs_of runs) own) es (entries_from number_of (meets_of (runs_of runs)) (centre_figure (numbers_of runs) (runs_of runs)) 0 own) in_range
+      (rw o (corners_in_lem runs w.in_range routes l.are_routes)) e ∙ o in
       let t = ap (λ (x : Head). x.trench) h in
       record {
         least = subst (Least g (runs_of runs)) (sym c) own_least;
@@ -103,27 +103,27 @@ module _ (job : List ℕ) (words : ℕ) (out : List ℕ) (s : Said) (out' : List
       forth (accepted number runs) e o n a =
           let (h, k, d) = lent_enough job words (length out) number runs e in
           let (w, j, t) = job_star job b number runs d in
-          record { job_in_lem = record { number = number; runs = runs; well_formed = w; written = j }; words_enough = h; bytes_enough = k; stars = t }
+          record { job_in = record { number = number; runs = runs; well_formed = w; written = j }; words_enough = h; bytes_enough = k; stars = t }
       forth (refused x) e o n a = absurd (no_plan n (refusal_number x) (refusal_place x) (sym a ∙ o.says))
 
       back : Admitted job words (length out) → (n : ℕ) × (s ≡ gives n)
       back a =
-          let j = a.job_in_lem in
+          let j = a.job_in in
           let e = enough job j.number j.runs (job_read job b j) words (length out) a.words_enough a.bytes_enough ∙ star_job job b j a.stars in
           let p = subst (λ (v : Parsed). Outcome v out s out') e call in
-          (length (plan_of a.job_in_lem.number a.job_in_lem.runs p.routes), p.says)
+          (length (plan_of a.job_in.number a.job_in.runs p.routes), p.says)
 
   -- DEMAND 3: however the answered bytes are read
   least_read : (n : ℕ) → s ≡ gives n → (j : JobIn job) (head : Head) (es : List Entry) → HeadFits head → All (All PointIn) (map (λ e. e.corners) es)
       → book_bytes head es ≡ take n out' → LeastPlan j.runs head es
-  least_read n a j head es fits in_range_lem q = go (verdict job words (length out)) refl call
+  least_read n a j head es fits in_range q = go (verdict job words (length out)) refl call
     where
       go : (v : Parsed) → verdict job words (length out) ≡ v → Outcome v out s out' → LeastPlan j.runs head es
       go (refused x) e o = absurd (no_plan n (refusal_number x) (refusal_place x) (sym a ∙ o.says))
       go (accepted number runs) e p =
           let d = (lent_enough job words (length out) number runs e).2 in
           subst (λ rs. LeastPlan rs head es) (same_job job b j number runs (judged_accepts (parse job) number runs d).0).1
-          (read_least number runs (job_star job b number runs d).0 p.routes p.least head es fits in_range_lem (q ∙ plan_front number runs out s out' p n a))
+          (read_least number runs (job_star job b number runs d).0 p.routes p.least head es fits in_range (q ∙ plan_front number runs out s out' p n a))
 
   -- DEMAND 1: what is said and what is left
   leaves : Leaves job words out s out'

@@ -63,11 +63,11 @@ module _ (job : List ℕ) (words bytes : ℕ) (b : Bytes job) where
     later ShortBuffer (short_plan j h) = bytes_few (subst (λ rs. bytes < bytes_for (runs_of rs)) (sym (same_job job b j number runs e).1) h)
     later NoStar (no_star j n) = ungrouped (λ s. n (subst (λ rs. AreStars (runs_of rs)) (same_job job b j number runs e).1 s))
 
-    abbrev job_in_lem : JobIn job
-    job_in_lem = let (w, j) = (accepted_iff job number runs b).0 e in record { number = number; runs = runs; well_formed = w; written = j }
+    abbrev job_in : JobIn job
+    job_in = let (w, j) = (accepted_iff job number runs b).0 e in record { number = number; runs = runs; well_formed = w; written = j }
 
     first_1 : words < words_for (runs_of runs) → FirstOf (Applies job words bytes) ShortWork
-    first_1 h = record { applies = short_work job_in_lem h; first = λ y a s. not_first (later y a) s }
+    first_1 h = record { applies = short_work job_in h; first = λ y a s. not_first (later y a) s }
       where
         not_first : {y : Refusal} → Later y → Sooner y ShortWork → ⊥
         not_first (words_few l) s = sooner_self ShortWork s
@@ -77,7 +77,7 @@ module _ (job : List ℕ) (words bytes : ℕ) (b : Bytes job) where
         not_first (ungrouped n) s = last_stage ShortWork s (omega arith)
 
     first_2 : words_for (runs_of runs) ≤ words → bytes < bytes_for (runs_of runs) → FirstOf (Applies job words bytes) ShortBuffer
-    first_2 h k = record { applies = short_plan job_in_lem k; first = λ y a s. not_first (later y a) s }
+    first_2 h k = record { applies = short_plan job_in k; first = λ y a s. not_first (later y a) s }
       where
         not_first : {y : Refusal} → Later y → Sooner y ShortBuffer → ⊥
         not_first (words_few l) s = omega arith
@@ -85,7 +85,7 @@ module _ (job : List ℕ) (words bytes : ℕ) (b : Bytes job) where
         not_first (ungrouped n) s = last_stage ShortBuffer s (omega arith)
 
     first_11 : words_for (runs_of runs) ≤ words → bytes_for (runs_of runs) ≤ bytes → (AreStars (runs_of runs) → ⊥) → FirstOf (Applies job words bytes) NoStar
-    first_11 h k n = record { applies = no_star job_in_lem n; first = λ y a s. not_first (later y a) s }
+    first_11 h k n = record { applies = no_star job_in n; first = λ y a s. not_first (later y a) s }
       where
         not_first : {y : Refusal} → Later y → Sooner y NoStar → ⊥
         not_first (words_few l) s = omega arith

@@ -116,7 +116,7 @@ pub head_fits : (number : ℕ) (l : List Read) → WellFormed number l → (rout
     → HeadFits (head_of number (runs_of l) (map corners routes))
 head_fits number l w routes m =
     let g = hanan (runs_of l) in
-    let d = distances_bounded l w.in_range_lem in
+    let d = distances_bounded l w.in_range in
     let c = counting g (runs_of l) (map corners routes) (corners_routes g (runs_of l) routes m) in
     record {
       job_fits = w.fits;

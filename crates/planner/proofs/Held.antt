@@ -96,18 +96,18 @@ module _ (j : Job) (h : Held j) where
   pub held_few : j.count ≤ 32
   held_few = omega (arith, length_held j, h.well_formed.most)
 
-  in_range_lem : (k : ℕ) → k < j.count → InRange (run_in j k)
-  in_range_lem k l = subst InRange (held_at j k l) (h.well_formed.in_range_lem k (omega (arith, length_held j)))
+  in_range : (k : ℕ) → k < j.count → InRange (run_in j k)
+  in_range k l = subst InRange (held_at j k l) (h.well_formed.in_range k (omega (arith, length_held j)))
 
   -- the coordinates are in their range
   pub held_range : RunsInRange j.x1 j.y1 j.x2 j.y2 j.count
   held_range =
       record {
         few = held_few;
-        x1_in = λ k l. (in_range_lem k l).x1_in;
-        y1_in = λ k l. (in_range_lem k l).y1_in;
-        x2_in = λ k l. (in_range_lem k l).x2_in;
-        y2_in = λ k l. (in_range_lem k l).y2_in;
+        x1_in = λ k l. (in_range k l).x1_in;
+        y1_in = λ k l. (in_range k l).y1_in;
+        x2_in = λ k l. (in_range k l).x2_in;
+        y2_in = λ k l. (in_range k l).y2_in;
       }
 
   -- the run numbers, and 0 behind the last

@@ -50,7 +50,7 @@ entries_right number meets centre h k l g (run ∷ runs) (route ∷ routes) two 
     centre_fits = l i;
     some = omega (arith, corners_two g run route two.0 m.0);
     few = few.0;
-    in_range_lem = inside.0;
+    in_range = inside.0;
     turning = corners_turning g run route two.0 m.0;
   },
   entries_right number meets centre h k l g runs routes two.1 m.1 inside.1 few.1 (suc i),
@@ -69,8 +69,8 @@ plan_right number runs w routes m =
       few = omega (arith, n, length-map routes corners, routes_length g (runs_of runs) routes m, length-map runs run_of, w.most);
       entries =
           entries_right (λ i. get_or (numbers_of runs) i 0) (meets_of (runs_of runs)) (centre_figure (numbers_of runs) (runs_of runs))
-          (λ i. omega (arith, number_bounded runs w.in_range_lem i)) (λ i. omega (arith, meets_most runs i, w.most))
-          (λ i. omega (arith, number_bounded runs w.in_range_lem (centre_of (meets g (runs_of runs)) (length (runs_of runs)) i))) g (runs_of runs) routes (runs_apart runs w.apart) m (corners_in_lem runs w.in_range_lem routes m)
+          (λ i. omega (arith, number_bounded runs w.in_range i)) (λ i. omega (arith, meets_most runs i, w.most))
+          (λ i. omega (arith, number_bounded runs w.in_range (centre_of (meets g (runs_of runs)) (length (runs_of runs)) i))) g (runs_of runs) routes (runs_apart runs w.apart) m (corners_in_lem runs w.in_range routes m)
           (routes_few g l.0 l.1 (runs_of runs) routes (runs_apart runs w.apart) m) 0;
     }
 

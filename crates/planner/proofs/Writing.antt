@@ -64,7 +64,7 @@ module _ (j : Job) (h : Held j) (laid : Layout) (L : LaidOut (runs_of (runs_in j
   saved_below = omega (arith, L.best.trench)
 
   pub saved_word : laid.saved < 4294967296
-  saved_word = omega (arith, saved_below, distances_bounded (runs_in j) h.well_formed.in_range_lem, h.well_formed.most)
+  saved_word = omega (arith, saved_below, distances_bounded (runs_in j) h.well_formed.in_range, h.well_formed.most)
 
   trench_is : sum distance runs - laid.saved ≡ union_length g (own_of runs laid)
   trench_is = omega (arith, L.best.trench, union_own)

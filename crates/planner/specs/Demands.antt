@@ -36,10 +36,10 @@ AreStars runs = (i : ℕ) → i < length runs → (c : ℕ) × StarOf (meets (ha
 
 -- the job is well formed, the words and bytes that are lent are those of its forecast or more, and its groups are stars
 pub record Admitted (job : List ℕ) (words bytes : ℕ) : Type 0 where
-  pub job_in_lem : JobIn job
-  pub words_enough : words_for (runs_of job_in_lem.runs) ≤ words
-  pub bytes_enough : bytes_for (runs_of job_in_lem.runs) ≤ bytes
-  pub stars : AreStars (runs_of job_in_lem.runs)
+  pub job_in : JobIn job
+  pub words_enough : words_for (runs_of job_in.runs) ≤ words
+  pub bytes_enough : bytes_for (runs_of job_in.runs) ≤ bytes
+  pub stars : AreStars (runs_of job_in.runs)
 
 -- When a refusal applies to a call: 3 to 9 and 17 by the job's bytes; to a job that is well formed 1 and 2, where fewer words or bytes are lent than its forecast
 -- tells (02, C-20), and 11, which "means that some group isn't" a star (C-16).

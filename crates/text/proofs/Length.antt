@@ -61,7 +61,7 @@ entry_length g e r =
       decimal_length 4 e.meets (omega (arith, r.meets_fits)),
       centre_length g e.centre r.centre_fits,
       decimal_length 2 (length e.corners) (omega (arith, r.few)),
-      points_length e.corners r.in_range_lem,
+      points_length e.corners r.in_range,
     ))
 
 -- the lines of all runs, which have at most 127 corners each

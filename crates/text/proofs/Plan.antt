@@ -77,7 +77,7 @@ entry_listing g e rest r =
     ap listing_of (append_assoc route (flat_map corner_record e.corners) rest)
     ∙ route_listing g e.number e.meets (length e.corners) e.centre (flat_map corner_record e.corners ++ rest) r.number_fits r.meets_fits
     (omega (arith, r.few)) r.centre_fits
-    ∙ ap (λ t. line ++ t) (corners_listing e.corners rest r.in_range_lem)
+    ∙ ap (λ t. line ++ t) (corners_listing e.corners rest r.in_range)
     ∙ sym (append_assoc line (flat_map point_text e.corners) (listing_of rest))
 
 -- the records of all runs

@@ -65,9 +65,9 @@ module _ (g : Grid) (p q : Point) (v : Vertex g p) (w : Vertex g q) (s : Run) (h
   on_line line d e (inl u) = inl (d ∙ ap line u.0, e ∙ ap line u.1)
   on_line line d e (inr u) = inr (d ∙ ap line u.0, e ∙ ap line u.1)
 
-  along_row_lem : p.y ≡ q.y → gap s.first.x s.second.x ≡ 1 → UnitOf g (λ e. lies e (p to q)) s
+  along_row : p.y ≡ q.y → gap s.first.x s.second.x ≡ 1 → UnitOf g (λ e. lies e (p to q)) s
   unfolding units_of
-  along_row_lem e o =
+  along_row e o =
       let (i, m, t, (k, b, up)) = step_gap g.columns g.columns_rise p.x q.x s.first.x s.second.x v.column w.column h.from.in_x h.upto.in_x o in
       let (j, n, d) = w.row in
       let row : ℕ → Point = λ x. point x (get_or g.rows j 0) in
@@ -95,7 +95,7 @@ module _ (g : Grid) (p q : Point) (v : Vertex g p) (w : Vertex g q) (s : Run) (h
       go : Straight (p to q)
           → ((s.first.y ≡ s.second.y) × (gap s.first.x s.second.x ≡ 1)) ⊎ ((s.first.x ≡ s.second.x) × (gap s.first.y s.second.y ≡ 1))
           → UnitOf g (λ e. lies e (p to q)) s
-      go (inr e) (inl k) = along_row_lem e k.1
+      go (inr e) (inl k) = along_row e k.1
       go (inl e) (inr k) = along_column e k.1
       go (inl e) (inl k) = absurd (no_gap _ _ (between_same h.from.in_x e ∙ sym (between_same h.upto.in_x e)) k.1)
       go (inr e) (inr k) = absurd (no_gap _ _ (between_same h.from.in_y e ∙ sym (between_same h.upto.in_y e)) k.1)

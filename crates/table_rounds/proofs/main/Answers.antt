@@ -6,4 +6,4 @@ use Rattle.table_rounds.proofs.main.Goals as goal
 pub go_round-sum-requires : goal.go_round-sum-requires
 go_round-sum-requires c =
     let f = c.frame_of-g.ensures in
-    (search rules, fits _ c.lines_at_lem.ensures.1 c.lines_at_lem-2.ensures.1 f.0 f.1)
+    (search rules, fits _ c.lines_at.ensures.1 c.lines_at-2.ensures.1 f.0 f.1)

@@ -1,7 +1,7 @@
--- `table_rounds::lines_at_lem` meets its contract: each round puts one short line more.
+-- `table_rounds::lines_at` meets its contract: each round puts one short line more.
 use Rattle.std.proofs.Common.{◌≤◌, ◌∙◌, arith}
 use Rattle.table.proofs.Lines.{length_line, line_next}
-use Rattle.table_rounds.proofs.lines_at_lem.Goals as goal
+use Rattle.table_rounds.proofs.lines_at.Goals as goal
 
 pub loop-i-preserved : goal.loop-i-preserved
 loop-i-preserved c =
