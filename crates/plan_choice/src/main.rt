@@ -6,7 +6,7 @@ use console::{Output, Screen};
 use std::alloc::Global;
 use std::env::Env;
 use std::io;
-use std::io::{Read, Stderr};
+use std::io::Stderr;
 use std::rt::Files;
 
 // Opens the file that an argument names, and says so where it cannot.
