@@ -18,7 +18,7 @@ use native.Mathlib.Omega.{arith}
 use lib.Dec.{ltb}
 use lib.ListN.{length, get_or}
 use borrow.Author.Tests.{lt-ltb, le-ltb}
-use Rattle.network.specs.DistinctRises.{distinct_rises}
+use Rattle.network.proofs.Rising.{distinct_rises}
 use Rattle.network.specs.Distinct.{insert, distinct}
 use Rattle.network.specs.Route.{Listed}
 use Rattle.network.proofs.Lists.{member_index, index_member}
@@ -89,7 +89,6 @@ length_insert v (a ∷ l) = rw insert_step (go (ltb v a) (ltb a v) (length_inser
 
 -- a value at a list's end may be inserted last: both ways give a rising list of the same values
 pub distinct_last : (l : List ℕ) (v : ℕ) → distinct (l ++ (v ∷ [])) ≡ insert v (distinct l)
-unfolding distinct
 distinct_last l v =
     only_rising (distinct (l ++ (v ∷ []))) (distinct (v ∷ l)) (distinct_rises (l ++ (v ∷ []))) (distinct_rises (v ∷ l))
     (λ u m. listed_distinct (v ∷ l) u (front u (distinct_listed (l ++ (v ∷ [])) u m)))
@@ -106,6 +105,5 @@ distinct_last l v =
 
 -- no more distinct values than values
 pub length_distinct : (l : List ℕ) → length (distinct l) ≤ length l
-unfolding distinct
 length_distinct [] = le_refl 0
 length_distinct (v ∷ l) = omega (arith, length_insert v (distinct l), length_distinct l)

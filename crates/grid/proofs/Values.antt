@@ -7,7 +7,7 @@ use native.Mathlib.Omega.{arith}
 use lib.ListN.{length, get_or, replicate, length-append}
 use lib.Seq.{take_at}
 use Rattle.network.specs.Grid.{Rising}
-use Rattle.network.specs.DistinctRises.{distinct_rises}
+use Rattle.network.proofs.Rising.{distinct_rises}
 use Rattle.network.specs.Distinct.{insert, distinct}
 use Rattle.grid.specs.declared.Axis.{Axis}
 use Rattle.grid.specs.Lines.{values, axis_of, lines_of, Room}
@@ -16,7 +16,7 @@ use Rattle.grid.proofs.Insert.{distinct_last, length_distinct}
 module _ (first second : List ℕ) where
   -- no runs, no lines
   distinct_none : distinct (values first second 0) ≡ []
-  unfolding values distinct
+  unfolding values
   distinct_none = refl
 
   -- one run more, two values more
@@ -60,7 +60,6 @@ line_more a r l v e h = h ∙ ap (λ (k : List ℕ). axis_of (insert v k)) (ap l
 
 -- one value more before the distinct values of a list
 pub insert_rising : (v : ℕ) (l : List ℕ) → Rising (insert v (distinct l))
-unfolding distinct
 insert_rising v l = distinct_rises (v ∷ l)
 
 module _ (first second : List ℕ) where

@@ -59,13 +59,11 @@ member_insert {u} v (a ∷ l) m = go (ltb v a) refl (ltb a v) refl (⊎_map (λ 
 
 -- the distinct numbers of a list are its numbers
 distinct_member : {u : ℕ} (l : List ℕ) → Member u (distinct l) → Member u l
-unfolding distinct
 distinct_member [] m = m
 distinct_member (v ∷ l) m = ⊎_elim here (λ o. there (distinct_member l o)) (insert_member v (distinct l) m)
 
 -- and all of them
 member_distinct : {u : ℕ} (l : List ℕ) → Member u l → Member u (distinct l)
-unfolding distinct
 member_distinct [] m = m
 member_distinct (v ∷ l) m = member_insert v (distinct l) (⊎_map (λ e. e) (member_distinct l) (Memᴰ.cases_cons m))
 

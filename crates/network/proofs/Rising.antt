@@ -1,13 +1,15 @@
 -- Rising lists: the order of the indexes is the order of the numbers.
 use mathlib.Core.Path.{◌≡◌}
 use mathlib.Core.Logic.{◌⊎◌, inl, inr}
-use mathlib.Core.List.{List, ◌∷◌, Memᴰ as Member}
+use mathlib.Core.List.{List, [], ◌∷◌, Memᴰ as Member}
 use Prim.Native.Nat.{ℕ, zero, suc, ◌≤◌, ◌<◌, min, max}
 use native.Mathlib.Nat.{lt_of_not-le}
 use native.Mathlib.Omega.{arith}
 use lib.ListN.{length, get_or}
 use Rattle.network.specs.Grid.{Rising}
 use Rattle.network.specs.Route.{Listed}
+use Rattle.network.specs.Distinct.{distinct}
+use Rattle.network.specs.DistinctRises.{rising_none, insert_rises}
 use Rattle.network.proofs.Lists.{member_index}
 use Rattle.network.proofs.Numbers.{order}
 
@@ -84,3 +86,8 @@ listed_min l p q a b = go (order p q)
     go : (p ≤ q) ⊎ (q < p) → Listed l (min p q)
     go (inl h) = let e : min p q ≡ p = omega arith in rw e a
     go (inr h) = let e : min p q ≡ q = omega arith in rw e b
+
+-- the distinct numbers of a list rise
+pub distinct_rises : (l : List ℕ) → Rising (distinct l)
+distinct_rises [] = rising_none
+distinct_rises (v ∷ l) = insert_rises v (distinct l) (distinct_rises l)

@@ -44,17 +44,17 @@ abbrev up_at_two : Route
 up_at_two = at 0 0 ∷ at 2 0 ∷ at 2 3 ∷ []
 
 the_columns : (hanan two).columns ≡ 0 ∷ 2 ∷ 5 ∷ []
-unfolding distinct insert
+unfolding insert
 the_columns = refl
 
 -- 2 + 3 along the bottom, 3 at the right, 3 in the middle
 two_union : union_length (hanan two) (right_then_up ∷ up_at_two ∷ []) ≡ 11
-unfolding union_length edges distinct insert lies level spans len
+unfolding union_length edges insert lies level spans len
 two_union = refl
 
 -- both are on the edge from (0,0) to (2,0)
 two_excess : excess (hanan two) (right_then_up ∷ up_at_two ∷ []) ≡ 2
-unfolding excess edges distinct insert lies level spans len
+unfolding excess edges insert lies level spans len
 two_excess = refl
 
 two_corners : corners right_then_up ≡ at 0 0 ∷ at 5 0 ∷ at 5 3 ∷ []
@@ -121,11 +121,11 @@ abbrev opposite_routes : List Route
 opposite_routes = (at 0 0 ∷ at 4 0 ∷ at 4 3 ∷ []) ∷ (at 0 3 ∷ at 0 0 ∷ at 4 0 ∷ []) ∷ []
 
 opposite_trench : union_length (hanan opposite) opposite_routes ≡ 10
-unfolding union_length edges distinct insert lies level spans len
+unfolding union_length edges insert lies level spans len
 opposite_trench = refl
 
 opposite_saved : excess (hanan opposite) opposite_routes ≡ 4
-unfolding excess edges distinct insert lies level spans len
+unfolding excess edges insert lies level spans len
 opposite_saved = refl
 
 -- no routes save more, as the trap has it (7)
@@ -159,11 +159,11 @@ abbrev ordered : List Run
 ordered = run 0 0 4 4 ∷ run 0 2 0 4 ∷ run 1 0 4 0 ∷ []
 
 ordered_first : excess (hanan ordered) ((at 0 0 ∷ at 0 4 ∷ at 4 4 ∷ []) ∷ (at 0 2 ∷ at 0 4 ∷ []) ∷ (at 1 0 ∷ at 4 0 ∷ []) ∷ []) ≡ 2
-unfolding excess edges distinct insert lies level spans len
+unfolding excess edges insert lies level spans len
 ordered_first = refl
 
 ordered_better : union_length (hanan ordered) ((at 0 0 ∷ at 4 0 ∷ at 4 4 ∷ []) ∷ (at 0 2 ∷ at 0 4 ∷ []) ∷ (at 1 0 ∷ at 4 0 ∷ []) ∷ []) ≡ 10
-unfolding union_length edges distinct insert lies level spans len
+unfolding union_length edges insert lies level spans len
 ordered_better = refl
 
 -- ---- third trap: two leaves of the other slope whose boxes touch
@@ -173,16 +173,16 @@ abbrev touching : List Run
 touching = run 0 0 6 6 ∷ run 0 2 4 0 ∷ run 4 6 6 2 ∷ []
 
 leaves_do_not_meet : meets (hanan touching) touching 1 2 ≡ false
-unfolding meets overlap edges distinct insert inside spans
+unfolding meets overlap edges insert inside spans
 leaves_do_not_meet = refl
 
 -- the centre shares a row with one leaf and a column with the other: 8 are saved, and not 6
 touching_saved : excess (hanan touching) ((at 0 0 ∷ at 4 0 ∷ at 4 6 ∷ at 6 6 ∷ []) ∷ (at 0 2 ∷ at 0 0 ∷ at 4 0 ∷ []) ∷ (at 4 6 ∷ at 4 2 ∷ at 6 2 ∷ []) ∷ []) ≡ 8
-unfolding excess edges distinct insert lies level spans len
+unfolding excess edges insert lies level spans len
 touching_saved = refl
 
 touching_trench : union_length (hanan touching) ((at 0 0 ∷ at 4 0 ∷ at 4 6 ∷ at 6 6 ∷ []) ∷ (at 0 2 ∷ at 0 0 ∷ at 4 0 ∷ []) ∷ (at 4 6 ∷ at 4 2 ∷ at 6 2 ∷ []) ∷ []) ≡ 16
-unfolding union_length edges distinct insert lies level spans len
+unfolding union_length edges insert lies level spans len
 touching_trench = refl
 
 -- ---- meeting and stars
@@ -192,38 +192,38 @@ abbrev job_centres : List Run → ℕ → List ℕ
 job_centres runs n = centres (meets (hanan runs) runs) (below n)
 
 touching_centre : job_centres touching 3 ≡ 0 ∷ []
-unfolding centres is_centre meets overlap edges distinct insert inside spans
+unfolding centres is_centre meets overlap edges insert inside spans
 touching_centre = refl
 
 -- the centre meets both leaves
 touching_meets : degree (meets (hanan touching) touching) (below 3) 0 ≡ 2
-unfolding degree meets overlap edges distinct insert inside spans
+unfolding degree meets overlap edges insert inside spans
 touching_meets = refl
 
 -- fourth trap: a common corner is no meeting
 corner : job_centres (run 0 0 3 3 ∷ run 3 3 5 5 ∷ []) 2 ≡ []
-unfolding centres is_centre meets overlap edges distinct insert inside spans
+unfolding centres is_centre meets overlap edges insert inside spans
 corner = refl
 
 -- nor is a crossing of two lines
 cross : job_centres (run 0 2 4 2 ∷ run 2 0 2 4 ∷ []) 2 ≡ []
-unfolding centres is_centre meets overlap edges distinct insert inside spans
+unfolding centres is_centre meets overlap edges insert inside spans
 cross = refl
 
 -- three equal runs are no star; of two, each is a centre, and the first is the lower
 three_equal : job_centres (run 0 0 3 4 ∷ run 0 0 3 4 ∷ run 0 0 3 4 ∷ []) 3 ≡ []
-unfolding centres is_centre meets overlap edges distinct insert inside spans
+unfolding centres is_centre meets overlap edges insert inside spans
 three_equal = refl
 
 two_equal : job_centres (run 0 0 3 4 ∷ run 0 0 3 4 ∷ []) 2 ≡ 0 ∷ 1 ∷ []
-unfolding centres is_centre meets overlap edges distinct insert inside spans
+unfolding centres is_centre meets overlap edges insert inside spans
 two_equal = refl
 
 -- (0,0)-(3,0); (2,0)-(5,0): straight runs that overlap
 line_trench : union_length (hanan (run 0 0 3 0 ∷ run 2 0 5 0 ∷ [])) ((at 0 0 ∷ at 3 0 ∷ []) ∷ (at 2 0 ∷ at 5 0 ∷ []) ∷ []) ≡ 5
-unfolding union_length edges distinct insert lies level spans len
+unfolding union_length edges insert lies level spans len
 line_trench = refl
 
 line_centres : job_centres (run 0 0 3 0 ∷ run 2 0 5 0 ∷ []) 2 ≡ 0 ∷ 1 ∷ []
-unfolding centres is_centre meets overlap edges distinct insert inside spans
+unfolding centres is_centre meets overlap edges insert inside spans
 line_centres = refl

@@ -7,6 +7,6 @@ insert v [] = v ∷ []
 insert v (a ∷ l) = elim (ltb v a) [ true ↦ v ∷ a ∷ l | false ↦ elim (ltb a v) [ true ↦ a ∷ insert v l | false ↦ a ∷ l ] ]
 
 -- the distinct numbers of a list, rising
-unfoldable pub distinct : List ℕ → List ℕ
+abbrev pub distinct : List ℕ → List ℕ
 distinct [] = []
 distinct (v ∷ l) = insert v (distinct l)

@@ -1,8 +1,9 @@
--- Checked, nothing to believe: the distinct numbers of a list rise. A grid's lines have to, so the Hanan grid is made with this law.
+-- Checked, nothing to believe: a rising list rises with one more number in it, so the distinct numbers of a list rise. A grid's lines have to, and the Hanan
+-- grid is made with this law.
 use Rattle.std.specs.Prelude.{◌≡◌, refl, List, [], ◌∷◌, Bool, true, false, ℕ, zero, suc, ◌<◌, ltb, length, get_or}
 use Rattle.std.proofs.Common.{arith, ltb-true}
 use Rattle.network.specs.Grid.{Rising}
-use Rattle.network.specs.Distinct.{insert, distinct}
+use Rattle.network.specs.Distinct.{insert}
 
 -- what a list starts with is above a number
 abbrev Above : ℕ → List ℕ → Type 0
@@ -28,8 +29,12 @@ insert_above a v (b ∷ l) h k m = go (ltb v b) (ltb b v)
     go false true = k (omega arith)
     go false false = k (omega arith)
 
+-- an empty list rises
+pub rising_none : Rising []
+rising_none i k = absurd (omega arith)
+
 -- a rising list rises with one more number in it
-insert_rises : (v : ℕ) (l : List ℕ) → Rising l → Rising (insert v l)
+pub insert_rises : (v : ℕ) (l : List ℕ) → Rising l → Rising (insert v l)
 unfolding insert
 insert_rises v [] r = rising_cons v [] (λ k. absurd (omega arith)) r
 insert_rises v (a ∷ l) r = go (ltb v a) refl (ltb a v) refl (rising_tail a l r) (insert_rises v l)
@@ -39,9 +44,3 @@ insert_rises v (a ∷ l) r = go (ltb v a) refl (ltb a v) refl (rising_tail a l r
     go true e t d p n = rising_cons v (a ∷ l) (λ k. ltb-true v a e) r
     go false e true d p n = rising_cons a (insert v l) (insert_above a v l (ltb-true a v d) p.0) (n p.1)
     go false e false d p n = r
-
--- the distinct numbers of a list rise
-pub distinct_rises : (l : List ℕ) → Rising (distinct l)
-unfolding distinct
-distinct_rises [] = λ i k. absurd (omega arith)
-distinct_rises (v ∷ l) = insert_rises v (distinct l) (distinct_rises l)

@@ -2,9 +2,9 @@
 -- meeting; H in 000, 2.2).
 use Rattle.std.specs.Prelude.{List, [], ◌∷◌, ℕ}
 use Rattle.network.specs.Plane.{Run}
-use Rattle.network.specs.Grid.{Grid}
+use Rattle.network.specs.Grid.{Grid, Rising}
 use Rattle.network.specs.Distinct.{distinct}
-use Rattle.network.specs.DistinctRises.{distinct_rises}
+use Rattle.network.specs.DistinctRises.{rising_none, insert_rises}
 
 -- the x values of all the points of some runs, and the y values
 abbrev pub xs : List Run → List ℕ
@@ -15,12 +15,16 @@ abbrev pub ys : List Run → List ℕ
 ys [] = []
 ys (r ∷ runs) = r.first.y ∷ r.second.y ∷ ys runs
 
--- the grid; that its lines rise is checked in `DistinctRises`
+-- the grid; that its lines rise is checked, and nothing to believe (`DistinctRises`)
 abbrev pub hanan : List Run → Grid
 hanan runs =
     record {
       columns = distinct (xs runs);
       rows = distinct (ys runs);
-      columns_rise = distinct_rises (xs runs);
-      rows_rise = distinct_rises (ys runs);
+      columns_rise = rise (xs runs);
+      rows_rise = rise (ys runs);
     }
+  where
+    rise : (l : List ℕ) → Rising (distinct l)
+    rise [] = rising_none
+    rise (v ∷ l) = insert_rises v (distinct l) (rise l)

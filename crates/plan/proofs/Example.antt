@@ -44,5 +44,5 @@ job_seven : plan_bytes 7 (1 ∷ 2 ∷ 3 ∷ []) runs routes
     ∷ 67 ∷ 20 ∷ 0 ∷ 0 ∷ 0 ∷ 20 ∷ 0 ∷ 0 ∷ 0
     ∷ 67 ∷ 20 ∷ 0 ∷ 0 ∷ 0 ∷ 50 ∷ 0 ∷ 0 ∷ 0
     ∷ 90 ∷ 8 ∷ 0 ∷ []
-unfolding plan_bytes drawn_bytes book_bytes pits_of pit_points crossings crossing passes_row passes_column amid unique flatten flat_map union_length edges len spans level lies distance gap distinct insert meets overlap inside degree is_centre centres reached grown spread group_of lowest heads group_count centre_of straight_on same_point
+unfolding plan_bytes drawn_bytes book_bytes pits_of pit_points crossings crossing passes_row passes_column amid unique flatten flat_map union_length edges len spans level lies distance gap insert meets overlap inside degree is_centre centres reached grown spread group_of lowest heads group_count centre_of straight_on same_point
 job_seven = refl

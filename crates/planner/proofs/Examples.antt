@@ -264,17 +264,17 @@ job_7 = one_plan 7 job7_runs job7_head job7_entries (omega arith) refl refl refl
 
 -- so has every job without runs: a head whose figures are 0, and no entry
 pub blank_plan : (number : ℕ) → number < 2 ^ 32 → HasOnePlan number [] (blank_head number) []
-unfolding well_test rises plan_test least_test choices union_length same_routes edges distinct pits_of pit_points crossings crossing passes_row passes_column amid unique flatten flat_map all_stars group_count heads
+unfolding well_test rises plan_test least_test choices union_length same_routes edges pits_of pit_points crossings crossing passes_row passes_column amid unique flatten flat_map all_stars group_count heads
 blank_plan number f = one_plan number [] (blank_head number) [] f refl refl refl refl
 
 -- job 7 needs 60 words, for 3 columns and 5 rows, and 157 bytes
 pub job_7_needs : forecast_of (bytes_of 7 job7_runs) ≡ Needs 60 157
-unfolding well_test rises touching spans distinct insert
+unfolding well_test rises touching spans insert
 job_7_needs = ap foretold_by (written_read 7 job7_runs (well_true 7 job7_runs (omega arith) refl))
 
 -- a job without runs needs no word, and 22 bytes
 pub blank_needs : (number : ℕ) → number < 2 ^ 32 → forecast_of (bytes_of number []) ≡ Needs 0 22
-unfolding well_test rises distinct
+unfolding well_test rises 
 blank_needs number f = ap foretold_by (written_read number [] (well_true number [] f refl))
 
 -- a call with the forecast or more for a job with one plan gives that plan's length and leaves its bytes
@@ -291,5 +291,5 @@ one_plan_call number runs head entries one words out s out' h k call =
 pub blank_call : (number : ℕ) → number < 2 ^ 32 → (words : ℕ) (out : List ℕ) (s : Said) (out' : List ℕ) → 22 ≤ length out
     → Outcome (verdict (bytes_of number []) words (length out)) out s out'
     → (s ≡ gives 22) × (out' ≡ head_record (blank_head number) ++ end_record 0 ++ drop 22 out)
-unfolding book_bytes flat_map distinct
+unfolding book_bytes flat_map 
 blank_call number f words out s out' h call = one_plan_call number [] (blank_head number) [] (blank_plan number f) words out s out' (omega arith) h call

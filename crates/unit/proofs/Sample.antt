@@ -37,5 +37,5 @@ unfolding unit_length unique same_edge same_step same_point flat_map
 four_edges = refl
 
 four_decimetres : union_length (hanan runs) routes ≡ 4
-unfolding union_length edges lies level spans len distinct insert
+unfolding union_length edges lies level spans len insert
 four_decimetres = refl

@@ -2,7 +2,7 @@
 use mathlib.Core.Path.{sym, ap, ◌∙◌}
 use native.Mathlib.Omega.{arith}
 use lib.ListN.{get_or}
-use Rattle.network.specs.DistinctRises.{distinct_rises}
+use Rattle.network.proofs.Rising.{distinct_rises}
 use Rattle.network.specs.Distinct.{insert, distinct}
 use Rattle.grid.specs.Lines.{values, axis_of}
 use Rattle.grid.proofs.Insert.{length_insert}
