@@ -1,13 +1,12 @@
 // What the programs read and write: standard input and output, files by name, and arguments.
 #![tactic(auto)]
 
-ghost use Rattle.std.specs.Prelude.{◌≡◌, ℕ, ◌/◌, ◌%◌, ◌<◌, ◌≤◌, List, [], ◌∷◌, ◌++◌, length, take, IfOk, OnOk, OnErr, IsOk, IsErr};
+ghost use Rattle.std.specs.Prelude.{◌≡◌, ℕ, ◌/◌, ◌%◌, ◌<◌, ◌≤◌, List, [], ◌∷◌, ◌++◌, length, take, IfOk, IsOk, IsErr};
 ghost use Rattle.std.specs.Fmt.{decimal};
 ghost use Rattle.std.specs.Io.{ReadsAtMost};
 ghost use Rattle.console.specs.Digits.{digit_letter};
 ghost use Rattle.std.specs.Io.KnownBytes.{Appends, Consumes, IsAtEnd};
 
-use std::alloc::Global;
 use std::env::Env;
 use std::io::{Read, Stdout, Write};
 use std::rt::Files;
@@ -95,20 +94,17 @@ impl<W: Write> Output<W> {
         self.put(&[digit(b / 16), digit(b % 16)]);
     }
 
-    // Writes a line that says what failed and why: a colon, and the error's text, less its number. Where memory runs out, nothing is written.
-    pub fn put_error(&mut self, alloc: Global, what: &[u8], error: io::Error) -> io::Result<()>
-        ensures written { OnOk result (IsOk self.new.outcome → (why : List ℕ)
-            × Appends (W.contents self.old.to) (W.contents self.new.to) (what.now ++ 58 ∷ 32 ∷ why ++ 10 ∷ [])) }
-        ensures kept { OnErr result (self.new ≡ self.old) }
+    // Writes a line that says what failed and why: a colon, and the error's text, less its number.
+    pub fn put_error(&mut self, what: &[u8], error: io::Error)
+        ensures written { IsOk self.new.outcome → (why : List ℕ)
+            × Appends (W.contents self.old.to) (W.contents self.new.to) (what.now ++ 58 ∷ 32 ∷ why ++ 10 ∷ []) }
         ensures ended { IsErr self.old.outcome → self.new ≡ self.old }
     {
-        let text = format!(in alloc; "{error}")?;
-        let (why, _) = text
-            .as_str()
-            .split_once(" (os error ")
-            .unwrap_or((text.as_str(), ""));
+        let mut room = [0u8; 512];
+        let n = text_of(error, &mut room);
+        let text = str::from_utf8(&room[..n]).unwrap_or("");
+        let (why, _) = text.split_once(" (os error ").unwrap_or((text, ""));
         self.put_reason(what, why.as_bytes());
-        Ok(())
     }
 
     fn put_reason(&mut self, what: &[u8], why: &[u8])
@@ -130,6 +126,16 @@ impl<W: Write> Output<W> {
     {
         self.outcome
     }
+}
+
+// Puts an error's text at the start of the room, as much as it has room for, and says how many bytes that is.
+fn text_of(error: io::Error, room: &mut [u8]) -> usize
+    ensures { result ≤ length room.new }
+{
+    let size = room.len();
+    let mut rest: &mut [u8] = room;
+    let _ = write!(rest, "{error}");
+    size.saturating_sub(rest.len())
 }
 
 // A digit below 16.

@@ -3,26 +3,20 @@
 #![tactic(auto)]
 
 use console::{Output, Screen};
-use std::alloc::Global;
 use std::env::Env;
 use std::io;
 use std::io::Stderr;
 use std::rt::Files;
 
 // Opens the file that an argument names, and says so where it cannot.
-fn open<R: Files + Env>(
-    rt: &R,
-    alloc: Global,
-    errors: &mut Output<Stderr>,
-    argument: usize,
-) -> io::Result<Option<R::File>> {
+fn open<R: Files + Env>(rt: &R, errors: &mut Output<Stderr>, argument: usize) -> Option<R::File> {
     let mut name = console::buffer();
     let n = console::argument(rt, argument, &mut name);
     match console::open(rt, &name[..n]) {
-        Ok(file) => Ok(Some(file)),
+        Ok(file) => Some(file),
         Err(error) => {
-            errors.put_error(alloc, &name[..n], error)?;
-            Ok(None)
+            errors.put_error(&name[..n], error);
+            None
         }
     }
 }
@@ -35,41 +29,32 @@ fn print(screen: &mut Screen, job: &[u8], first: &[u8], second: &[u8]) {
 }
 
 // Writes a book to the file that an argument names, or says why it cannot.
-fn store<R: Files + Env>(
-    rt: &R,
-    alloc: Global,
-    errors: &mut Output<Stderr>,
-    book: &[u8],
-    argument: usize,
-) -> io::Result<()> {
+fn store<R: Files + Env>(rt: &R, errors: &mut Output<Stderr>, book: &[u8], argument: usize) {
     let mut name = console::buffer();
     let n = console::argument(rt, argument, &mut name);
     match console::store(rt, &name[..n], book) {
-        Ok(()) => Ok(()),
-        Err(error) => errors.put_error(alloc, &name[..n], error),
+        Ok(()) => {}
+        Err(error) => errors.put_error(&name[..n], error),
     }
 }
 
 // The book that is chosen goes to the file OUT as it was lent. No book that can be chosen is empty: no bytes are a refusal, and OUT is left alone.
 fn store_chosen<'a, R: Files + Env>(
     rt: &R,
-    alloc: Global,
     errors: &mut Output<Stderr>,
     job: &[u8],
     first: &'a [u8],
     second: &'a [u8],
-) -> io::Result<()> {
+) {
     let chosen = choice::choose(job, first, second);
     if chosen.len() > 0 {
-        store(rt, alloc, errors, chosen, 4)?;
+        store(rt, errors, chosen, 4);
     }
-    Ok(())
 }
 
 // The first 640 bytes of the job and the first 36,887 of each book decide (`choice_prefix` of choice_report), and a book that is chosen has no more (`choice_in`).
 fn read<R: Files + Env>(
     rt: &R,
-    alloc: Global,
     screen: &mut Screen,
     errors: &mut Output<Stderr>,
     mut job_file: R::File,
@@ -85,7 +70,7 @@ fn read<R: Files + Env>(
     let s = console::read_full(&mut second_file, &mut second)?;
     print(screen, &job[..n], &first[..f], &second[..s]);
     if stores {
-        store_chosen(rt, alloc, errors, &job[..n], &first[..f], &second[..s])?;
+        store_chosen(rt, errors, &job[..n], &first[..f], &second[..s]);
     }
     Ok(())
 }
@@ -100,13 +85,12 @@ fn main(rt: HostRuntime) -> io::Result<()> {
         );
         return errors.end();
     }
-    let job_file = open(&rt, rt.alloc(), &mut errors, 1)?;
-    let first_file = open(&rt, rt.alloc(), &mut errors, 2)?;
-    let second_file = open(&rt, rt.alloc(), &mut errors, 3)?;
+    let job_file = open(&rt, &mut errors, 1);
+    let first_file = open(&rt, &mut errors, 2);
+    let second_file = open(&rt, &mut errors, 3);
     match (job_file, first_file, second_file) {
         (Some(job), Some(first), Some(second)) => read(
             &rt,
-            rt.alloc(),
             &mut screen,
             &mut errors,
             job,
