@@ -34,7 +34,7 @@ pub fn most(a: u32, b: u32) -> u32
 
 // Puts a line at v among the first count lines, unless it is one of them, and says how many there are then.
 fn add_line(lines: &mut [u32; 64], count: usize, v: u32) -> usize
-    requires { Room (record { lines = lines.now; count = count }) }
+    requires { Room (record { lines = lines.old; count = count }) }
     ensures { record { lines = lines.new; count = result } ≡ axis_of (insert v (lines_of (record { lines = lines.old; count = count }))) }
 {
     let at = position(&*lines, count, v) as usize;
@@ -53,7 +53,7 @@ fn add_line(lines: &mut [u32; 64], count: usize, v: u32) -> usize
 
 // Puts v at place `at` of the first count lines, and each line from there on one place further, the first of them first.
 fn slip(lines: &mut [u32; 64], at: usize, count: usize, v: u32)
-    requires { Room (record { lines = lines.now; count = count }) × (at ≤ count) }
+    requires { Room (record { lines = lines.old; count = count }) × (at ≤ count) }
     ensures { lines.new ≡ padded 64 (put at v (lines_of (record { lines = lines.old; count = count }))) }
 {
     let mut held = v;
@@ -69,7 +69,7 @@ fn slip(lines: &mut [u32; 64], at: usize, count: usize, v: u32)
 
 // The same, the last line first: one move of memory, which is quicker where there are many lines, and slower where there are few.
 fn shift(lines: &mut [u32; 64], at: usize, count: usize, v: u32)
-    requires { Room (record { lines = lines.now; count = count }) × (at ≤ count) }
+    requires { Room (record { lines = lines.old; count = count }) × (at ≤ count) }
     ensures { lines.new ≡ padded 64 (put at v (lines_of (record { lines = lines.old; count = count }))) }
 {
     let mut i = count;
@@ -89,7 +89,7 @@ pub fn add_run(
     second: &[u32; 32],
     i: usize,
 ) -> usize
-    requires { (i < 32) × (record { lines = lines.now; count = count } ≡ axis_of (distinct (values first.now second.now i))) }
+    requires { (i < 32) × (record { lines = lines.old; count = count } ≡ axis_of (distinct (values first.now second.now i))) }
     ensures { record { lines = lines.new; count = result } ≡ axis_of (distinct (values first.now second.now (i + 1))) }
 {
     let more = add_line(lines, count, first[i]);
