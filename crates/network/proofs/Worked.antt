@@ -10,7 +10,7 @@ use Rattle.network.specs.Lists.{unique}
 use Rattle.network.specs.Plane.{Point, Run, ◌to◌, gap, distance, same_point}
 use Rattle.network.specs.Grid.{len, edges, spans, inside}
 use Rattle.network.specs.Hanan.{hanan}
-use Rattle.network.specs.Distinct.{insert, distinct}
+use Rattle.network.specs.Distinct.{insert}
 use Rattle.network.specs.Route.{Route, level, lies, Manhattan, Routes, union_length, Least}
 use Rattle.network.specs.Graph.{overlap, meets, below, degree, is_centre, centres}
 use Rattle.network.specs.Excess.{excess}

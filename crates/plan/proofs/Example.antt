@@ -5,7 +5,7 @@ use Prim.Native.Nat.{ℕ, ◌+◌}
 use Rattle.network.specs.Lists.{unique}
 use Rattle.network.specs.Plane.{Point, Run, ◌to◌, gap, distance, same_point}
 use Rattle.network.specs.Grid.{len, edges, spans, inside}
-use Rattle.network.specs.Distinct.{insert, distinct}
+use Rattle.network.specs.Distinct.{insert}
 use Rattle.network.specs.Route.{Route, level, lies, union_length}
 use Rattle.network.specs.Graph.{overlap, meets, degree, is_centre, centres}
 use Rattle.network.specs.Corners.{straight_on}

@@ -15,7 +15,7 @@ use lib.ListN.{length, get_or, drop}
 use Rattle.network.specs.Lists.{sum, every, All, unique}
 use Rattle.network.specs.Plane.{Point, gap, distance, same_point}
 use Rattle.network.specs.Grid.{len, edges, spans, inside}
-use Rattle.network.specs.Distinct.{insert, distinct}
+use Rattle.network.specs.Distinct.{insert}
 use Rattle.network.specs.Hanan.{hanan}
 use Rattle.network.specs.Route.{Route, level, lies, union_length}
 use Rattle.network.specs.Graph.{overlap, meets, degree, is_centre, centres}
@@ -190,7 +190,7 @@ all_sound (e ∷ l) h = (
 -- every row of the table holds
 pub examples_hold : All Holds examples
 unfolding test test_of read_of is_few is_refused judged read_from step_by run_step end_step record_of decoded runs_bytes well_test rises plan_test least_test choices in_front routes_of ways lane_of index_in same_point straight_on union_length lies level len
-    all_stars in_star group_of spread grown reached centres is_centre meets overlap edges inside spans distinct insert gap distance pits_of pit_points crossings crossing passes_row passes_column amid unique flatten flat_map
+    all_stars in_star group_of spread grown reached centres is_centre meets overlap edges inside spans insert gap distance pits_of pit_points crossings crossing passes_row passes_column amid unique flatten flat_map
 examples_hold = all_sound examples (λ number. refl)
 
 -- ---- job 7 of the listing
@@ -259,7 +259,7 @@ one_plan number runs head entries f w h d e =
 -- job 7 has one least plan, and this is its head and what it says of its runs
 pub job_7 : HasOnePlan 7 job7_runs job7_head job7_entries
 unfolding well_test rises plan_test least_test choices in_front routes_of ways lane_of index_in same_point straight_on union_length lies level len same_routes same_points
-    all_stars in_star group_count heads lowest centre_of group_of spread grown reached centres is_centre meets degree overlap edges inside spans distinct insert gap distance pits_of pit_points crossings crossing passes_row passes_column amid unique flatten flat_map
+    all_stars in_star group_count heads lowest centre_of group_of spread grown reached centres is_centre meets degree overlap edges inside spans insert gap distance pits_of pit_points crossings crossing passes_row passes_column amid unique flatten flat_map
 job_7 = one_plan 7 job7_runs job7_head job7_entries (omega arith) refl refl refl refl
 
 -- so has every job without runs: a head whose figures are 0, and no entry

@@ -6,7 +6,7 @@ use Rattle.network.specs.Lists.{unique}
 use Rattle.network.specs.Plane.{Run, ◌to◌, gap, distance, same_point}
 use Rattle.network.specs.Grid.{len, edges, spans}
 use Rattle.network.specs.Hanan.{hanan}
-use Rattle.network.specs.Distinct.{insert, distinct}
+use Rattle.network.specs.Distinct.{insert}
 use Rattle.network.specs.Route.{Route, level, lies, union_length}
 use Rattle.unit.specs.Paths.{UnitPaths, same_step, same_edge, unit_length, nearer, next, walked}
 use Rattle.unit.proofs.Units.{point}
