@@ -107,7 +107,8 @@ fn lay_group(
     let centre = layout::both_points(xfirst[c], yfirst[c], xsecond[c], ysecond[c]);
     let mut k: usize = 0;
     while k < n {
-        if centres[k] == c {
+        let group = centres[k];
+        if group == c {
             let run = layout::both_points(xfirst[k], yfirst[k], xsecond[k], ysecond[k]);
             let s = found[k];
             let at = k * stride;

@@ -274,7 +274,7 @@ job_7_needs = ap foretold_by (written_read 7 job7_runs (well_true 7 job7_runs (o
 
 -- a job without runs needs no word, and 22 bytes
 pub blank_needs : (number : ℕ) → number < 2 ^ 32 → forecast_of (bytes_of number []) ≡ Needs 0 22
-unfolding well_test rises 
+unfolding well_test rises
 blank_needs number f = ap foretold_by (written_read number [] (well_true number [] f refl))
 
 -- a call with the forecast or more for a job with one plan gives that plan's length and leaves its bytes
@@ -291,5 +291,5 @@ one_plan_call number runs head entries one words out s out' h k call =
 pub blank_call : (number : ℕ) → number < 2 ^ 32 → (words : ℕ) (out : List ℕ) (s : Said) (out' : List ℕ) → 22 ≤ length out
     → Outcome (verdict (bytes_of number []) words (length out)) out s out'
     → (s ≡ gives 22) × (out' ≡ head_record (blank_head number) ++ end_record 0 ++ drop 22 out)
-unfolding book_bytes flat_map 
+unfolding book_bytes flat_map
 blank_call number f words out s out' h call = one_plan_call number [] (blank_head number) [] (blank_plan number f) words out s out' (omega arith) h call

@@ -17,7 +17,7 @@ use Rattle.laying.proofs.Blocks.{block_end, block_length, roomy_kept, written_le
 use Rattle.laying.proofs.Loop.{laid_none, laid_skip, laid_next}
 use native.Mathlib.Omega.{arith}
 use Rattle.laying.proofs.lay_group.Goals as goal
-use Rattle.laying.proofs.lay_group.Goals.{else-centres-k, else-leaf-lt32, then-centres-k, then-leaf-lt32}
+use Rattle.laying.proofs.lay_group.Goals.{else-group-c, else-leaf-lt32, then-group-c, then-leaf-lt32}
 
 pub loop-i-init : goal.loop-i-init
 unfolding steps
@@ -127,7 +127,7 @@ route_of-requires c =
       omega (arith, r.enough l.k below, block_length _ _ _ _ _ r l.k below),
       (
         c.args.shares.now,
-        record { centre_layable = g.layable _ g.centre g.own; layable = g.layable _ below c.if-centres-k.true; found = l.invariant.6 l.k (omega (arith, g.few)) },
+        record { centre_layable = g.layable _ g.centre g.own; layable = g.layable _ below c.if-group-c.true; found = l.invariant.6 l.k (omega (arith, g.few)) },
       ),
     )
 
@@ -142,19 +142,19 @@ loop-k-preserved c =
     let moves = moves_of (trace_of a.steps.now a.shares.now a.count) in
     let Next : List ℕ → Type 0
     = λ routes. (length routes ≡ length l.routes) × GroupWritten xs ys (l.k + 1) a.centres.now a.c moves (block_of a.routes.now a.stride) (block_of routes a.stride) in
-    let r : Next c.if-centres-k.routes
-    = elim c.if-centres-k.branch [
-      | then-centres-k w ↦ let new = w.route_of.new.to in
+    let r : Next c.if-group-c.routes
+    = elim c.if-group-c.branch [
+      | then-group-c w ↦ let new = w.route_of.new.to in
           let end = block_end _ _ _ _ _ l.invariant.8 l.k below in
           let size = w.route_of.ensures.1 ∙ block_length _ _ _ _ _ l.invariant.8 l.k below in
           subst Next (sym w.routes-is) (
             written_length a.stride l.k l.routes new end size,
-            laid_next _ _ _ _ _ w.if-centres-k.true
+            laid_next _ _ _ _ _ w.if-group-c.true
                 (rw (block_here a.stride l.k l.routes new end size) (rw (l.invariant.4, w.both_points-run.ensures) at (w.route_of.ensures.0 a.shares.now)
-                (record { centre_layable = g.layable _ g.centre g.own; layable = g.layable _ below w.if-centres-k.true; found = l.invariant.6 l.k (omega (arith, g.few)) })))
+                (record { centre_layable = g.layable _ g.centre g.own; layable = g.layable _ below w.if-group-c.true; found = l.invariant.6 l.k (omega (arith, g.few)) })))
                 (block_there a.stride l.k l.routes new end size) l.invariant.10,
           )
-      | else-centres-k w ↦ subst Next (sym w.routes-is) (refl, laid_skip _ _ _ _ _ w.if-centres-k.false l.invariant.10)
+      | else-group-c w ↦ subst Next (sym w.routes-is) (refl, laid_skip _ _ _ _ _ w.if-group-c.false l.invariant.10)
     ] in (
       omega (arith, below),
       l.invariant.1,
