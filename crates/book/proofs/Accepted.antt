@@ -8,7 +8,7 @@ use native.Mathlib.Omega.{arith}
 use native.Mathlib.Decide.{dec_lt}
 use borrow.Author.Tests.{leb-true}
 use lib.Dec.{leb}
-use lib.ListN.{length, get_or, drop, replicate, length-append, length-map, length-replicate}
+use lib.ListN.{length, get_or, drop, replicate, length-map}
 use Rattle.network.specs.Lists.{All}
 use Rattle.network.specs.Plane.{Point}
 use Rattle.network.proofs.Tests.{and_split}
@@ -24,11 +24,9 @@ use Rattle.records.specs.declared.Record.TheVariants as rec
 use Rattle.records.specs.Records.{record_of}
 use Rattle.records.proofs.Records.{record_fits}
 use Rattle.refusal.specs.declared.Refusal.{Refusal}
-use Rattle.book.specs.declared.Answer.TheVariants.{Accepted, Refused}
 use Rattle.book.specs.declared.Reading.{Reading}
 use Rattle.book.specs.declared.Walk.{Walk}
-use Rattle.book.specs.declared.Route.TheVariants as route
-use Rattle.book.specs.declared.Spot.TheVariants as spot
+use Rattle.std.specs.Prelude.{Some, None, Ok, Err}
 use Rattle.book.specs.Parse.{Parsed, accepted, refused, start, Told, Rest, rest, stopped, is_grouped, rest_of, entries_of, parse_by, parse_plan}
 use Rattle.book.specs.Reading.{route_in, route_of, spot_in, corner_in, corner_of, places, padded, places_of, reading_of, as_route, route_by, as_spot, corner_place, corner_by}
 use Rattle.book.proofs.Taken.{head_grouped}
@@ -83,56 +81,33 @@ accepted_routes s h es e =
 
 -- ---- the reading
 
--- its places are those of the book
-pub reading_places : (q : Parsed) → (reading_of q).places ≡ places_of q
+-- a book that is read is accepted, with the head and the places that are given
+pub reading_accepted : (q : Parsed) (r : Reading) → Ok r ≡ reading_of q → (es : List Entry) × (q ≡ accepted r.head es) × (r.places ≡ places_of q)
 unfolding reading_of
-reading_places (accepted h es) = refl
-reading_places (refused x) = refl
+reading_accepted (accepted h es) r e =
+    let same : ◌≡◌ {A = Reading} r (record { head = h; places = places_of (accepted h es) }) = cc in
+    (es, ap (λ (f : Reading). accepted f.head es) (sym same), ap (λ (f : Reading). f.places) same)
+reading_accepted (refused x) r e = absurd (let z : ◌≡◌ {A = ℕ} 0 1 = cc in omega arith)
 
--- there are 33
-pub places_length : (s : List ℕ) → length (places_of (parse_plan s)) ≡ 33
-places_length s = go (parse_plan s) refl
-  where
-    go : (q : Parsed) → parse_plan s ≡ q → length (places_of q) ≡ 33
-    go (accepted h es) e =
-        let l = places h.grouped 19 es in
-        omega (arith, accepted_routes s h es e, length_places h.grouped 19 es, length-append l (replicate (33 - length l) 0), length-replicate {A = ℕ} (33 - length l) 0)
-    go (refused x) e = refl
-
--- a reading that is an acceptance is that of its head and some entries
-pub reading_accepted : (q : Parsed) (r : Reading) → r ≡ reading_of q → r.answer ≡ Accepted → (es : List Entry) × (q ≡ accepted r.head es)
+-- and one that is not is refused so
+pub reading_refused : (q : Parsed) (x : Refusal) → Err x ≡ reading_of q → q ≡ refused x
 unfolding reading_of
-reading_accepted (accepted h es) r e a = (es, ap (λ (f : Head). accepted f es) (sym (ap (λ (f : Reading). f.head) e)))
-reading_accepted (refused x) r e a = absurd (no_refusal (sym a ∙ ap (λ (f : Reading). f.answer) e))
-  where
-    no_refusal : Accepted ≡ Refused x → ⊥
-    no_refusal e = let z : ◌≡◌ {A = ℕ} 0 1 = cc in omega arith
-
--- and a refusal that of itself
-pub reading_refused : (q : Parsed) (r : Reading) (x : Refusal) → r ≡ reading_of q → r.answer ≡ Refused x → q ≡ refused x
-unfolding reading_of
-reading_refused (accepted h es) r x e a = absurd (no_refusal (sym a ∙ ap (λ (f : Reading). f.answer) e))
-  where
-    no_refusal : Refused x ≡ Accepted → ⊥
-    no_refusal e = let z : ◌≡◌ {A = ℕ} 0 1 = cc in omega arith
-reading_refused (refused y) r x e a = ap refused (same (sym (ap (λ (f : Reading). f.answer) e) ∙ a))
-  where
-    same : Refused y ≡ Refused x → y ≡ x
-    same e = cc
+reading_refused (accepted h es) x e = absurd (let z : ◌≡◌ {A = ℕ} 0 1 = cc in omega arith)
+reading_refused (refused y) x e = let same : y ≡ x = cc in ap refused same
 
 -- ---- the queries, past the last
 
-pub past_routes : (es : List Entry) (i : ℕ) → length es ≤ i → route.Nothing ≡ route_in es i
+pub past_routes : (es : List Entry) (i : ℕ) → length es ≤ i → None ≡ route_in es i
 past_routes [] i h = refl
 past_routes (e ∷ es) zero h = absurd (omega arith)
 past_routes (e ∷ es) (suc i) h = past_routes es i (omega arith)
 
-past_corners : (es : List Entry) (i j : ℕ) → length es ≤ i → spot.Nothing ≡ corner_in es i j
+past_corners : (es : List Entry) (i j : ℕ) → length es ≤ i → None ≡ corner_in es i j
 past_corners [] i j h = refl
 past_corners (e ∷ es) zero j h = absurd (omega arith)
 past_corners (e ∷ es) (suc i) j h = past_corners es i j (omega arith)
 
-past_spots : (ps : List Point) (j : ℕ) → length ps ≤ j → spot.Nothing ≡ spot_in ps j
+past_spots : (ps : List Point) (j : ℕ) → length ps ≤ j → None ≡ spot_in ps j
 past_spots [] j h = refl
 past_spots (p ∷ ps) zero h = absurd (omega arith)
 past_spots (p ∷ ps) (suc j) h = past_spots ps j (omega arith)
@@ -144,9 +119,9 @@ none_there (suc i) t l e = let z : ◌≡◌ {A = ℕ} 0 1 = cc in omega arith
 
 -- the queries of the route with an index
 told_route : (ts : List Told) (i : ℕ) (t : Told) → drop i ts ≡ t ∷ drop (suc i) ts
-    → route_in (entries_of ts) i ≡ route.Found t.entry.number t.entry.meets (length t.entry.corners) t.entry.centre
+    → route_in (entries_of ts) i ≡ Some (record { number = t.entry.number; meets = t.entry.meets; corners = length t.entry.corners; centre = t.entry.centre })
 told_route [] i t e = absurd (none_there i t _ e)
-told_route (u ∷ ts) zero t e = let same : u ≡ t = cc in ap (λ (v : Told). route.Found v.entry.number v.entry.meets (length v.entry.corners) v.entry.centre) same
+told_route (u ∷ ts) zero t e = let same : u ≡ t = cc in cc
 told_route (u ∷ ts) (suc i) t e = told_route ts i t e
 
 told_corner : (ts : List Told) (i : ℕ) (t : Told) (j : ℕ) → drop i ts ≡ t ∷ drop (suc i) ts → corner_in (entries_of ts) i j ≡ spot_in t.entry.corners j
@@ -163,14 +138,15 @@ told_right (u ∷ ts) (suc i) t e a = told_right ts i t e a.1
 
 module _ (s : List ℕ) (b : Bytes s) where
   -- its words are its decimetres
-  spot_at_lem : (at : ℕ) (w : Walk) (p : Point) → CornerAt s at w p → as_spot (record_of (drop at s)) ≡ spot.Found (decimetres p.x) (decimetres p.y)
+  spot_at_lem : (at : ℕ) (w : Walk) (p : Point) → CornerAt s at w p → as_spot (record_of (drop at s)) ≡ Some (record { x = decimetres p.x; y = decimetres p.y })
   spot_at_lem at w p k =
       let f = rw k.is at (record_fits (drop at s) (bytes_drop at s b)) in
       let (x_in, y_in) = and_split (leb p.x 2000000) (leb p.y 2000000) k.in_range in
       ap as_spot k.is
-      ∙ λ i. spot.Found
-      ((signed_decimetres k.across f.0 (omega (arith, k.x_is, leb-true p.x 2000000 x_in)) ∙ ap decimetres (sym k.x_is)) i)
-      ((signed_decimetres k.upward f.1 (omega (arith, k.y_is, leb-true p.y 2000000 y_in)) ∙ ap decimetres (sym k.y_is)) i)
+      ∙ λ i. Some (record {
+        x = (signed_decimetres k.across f.0 (omega (arith, k.x_is, leb-true p.x 2000000 x_in)) ∙ ap decimetres (sym k.x_is)) i;
+        y = (signed_decimetres k.upward f.1 (omega (arith, k.y_is, leb-true p.y 2000000 y_in)) ∙ ap decimetres (sym k.y_is)) i;
+      })
 
   corner_at : (at : ℕ) (w : Walk) (ps : List Point) (j : ℕ) → CornersAt s at w ps → j < length ps → as_spot (record_of (drop (at + 9 * j) s)) ≡ spot_in ps j
   unfolding CornersAt
@@ -224,7 +200,7 @@ module _ (s : List ℕ) (i : ℕ) where
               let k = placed s h.grouped held a.told i refl a.held l in
               let r = told_right a.told i k.route k.here a.right in
               sym (some_route s held i (omega (arith, k.end)))
-              ∙ ap as_route k.at.is ∙ ap (λ n. route.Found k.route.entry.number k.route.entry.meets n k.route.entry.centre) r.said
+              ∙ ap as_route k.at.is ∙ ap (λ n. Some (record { number = k.route.entry.number; meets = k.route.entry.meets; corners = n; centre = k.route.entry.centre })) r.said
               ∙ sym (told_route a.told i k.route k.here)
           by (no l) =
               sym (no_route s held i (omega (arith, past_place h.grouped (entries_of a.told) i (omega (arith, n)))))

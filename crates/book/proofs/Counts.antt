@@ -21,8 +21,7 @@ use Rattle.job.proofs.There.{word2_there}
 use Rattle.records.specs.declared.Record.{Record}
 use Rattle.records.specs.declared.Record.TheVariants as rec
 use Rattle.records.specs.Records.{record_of}
-use Rattle.book.specs.declared.Answer.TheVariants.{Accepted, Refused}
-use Rattle.book.specs.declared.Reading.{Reading}
+use Rattle.std.specs.Prelude.{Ok, Err}
 use Rattle.book.specs.Parse.{
   Parsed,
   accepted,
@@ -53,10 +52,6 @@ use Rattle.book.proofs.Stands.{Stands, first_place, padded_place, placed}
 -- a refusal is no acceptance
 pub not_both : (x : Refusal) (h : Head) (es : List Entry) → refused x ≡ accepted h es → ⊥
 not_both x h es e = let z : ◌≡◌ {A = ℕ} 0 1 = cc in omega arith
-
--- nor is its answer
-never_both : (x : Refusal) → Accepted ≡ Refused x → ⊥
-never_both x e = let z : ◌≡◌ {A = ℕ} 0 1 = cc in omega arith
 
 -- the side of a test that is no refusal
 kept : (b : Bool) (x : Refusal) (y : Parsed) (h : Head) (es : List Entry) → cond b (refused x) y ≡ accepted h es → (b ≡ false) × (y ≡ accepted h es)
@@ -169,8 +164,8 @@ module _ (s : List ℕ) where
   refused_by (rec.End total) k x e = cc
   refused_by rec.Other k x e = cc
 
-  pub shape_refused : (x : Refusal) → broken x ≡ shape_of s → reading_of (refused x) ≡ reading_of (parse_plan s)
-  unfolding parse_plan shape_of
+  pub shape_refused : (x : Refusal) → broken x ≡ shape_of s → Err x ≡ reading_of (parse_plan s)
+  unfolding parse_plan shape_of reading_of
   shape_refused x e = ap reading_of (refused_by (record_of s) (rest_of s) x e)
 
 -- ---- the counts by the places
@@ -194,14 +189,14 @@ pub Comparing : {s : List ℕ} {h : Head} {n total : ℕ} {held : List ℕ} → 
 Comparing {s} {h} {n} {total} {held} w i =
     counted h.grouped 19 w.told (lastly h w.told total) ≡ counted h.grouped (get_or held i 0) (drop i w.told) (lastly h w.told total)
 
--- the answer to a book that is refused
-refusing_is : (s : List ℕ) (x : Refusal) → parse_plan s ≡ refused x → Refused x ≡ (reading_of (parse_plan s)).answer
+-- a book that is refused
+refusing_is : (s : List ℕ) (x : Refusal) → parse_plan s ≡ refused x → Err x ≡ reading_of (parse_plan s)
 unfolding reading_of
-refusing_is s x e = sym (ap (λ p. (reading_of p).answer) e)
+refusing_is s x e = sym (ap reading_of e)
 
 module _ {s : List ℕ} {h : Head} {n total : ℕ} {held : List ℕ} (w : WholeBook s h n total held) where
   -- the head's count differs
-  pub runs_wrong : (h.runs ≡ n → ⊥) → Refused (Miscounted 0) ≡ (reading_of (parse_plan s)).answer
+  pub runs_wrong : (h.runs ≡ n → ⊥) → Err (Miscounted 0) ≡ reading_of (parse_plan s)
   unfolding agreed
   runs_wrong d = refusing_is s _ (w.is ∙ simp (ne_eqb h.runs (length w.told) (λ z. d (z ∙ sym w.count))))
 
@@ -245,7 +240,7 @@ module _ {s : List ℕ} {h : Head} {n total : ℕ} {held : List ℕ} (w : WholeB
       next c = c ∙ ap (λ ts. counted h.grouped (get_or held i 0) ts (lastly h w.told total)) stood.here
 
       pub compared_wrong : by_places (route_size h.grouped) (get_or held i 0) (get_or held (i + 1) 0) said ≡ true
-          → h.runs ≡ n → Comparing w i → Refused (Miscounted (get_or held i 0)) ≡ (reading_of (parse_plan s)).answer
+          → h.runs ≡ n → Comparing w i → Err (Miscounted (get_or held i 0)) ≡ reading_of (parse_plan s)
       compared_wrong t runs c = refusing_is s _ (counting runs ∙ next c ∙ simp (sym tested ∙ t))
 
       pub compared_on : by_places (route_size h.grouped) (get_or held i 0) (get_or held (i + 1) 0) said ≡ false → Comparing w i → Comparing w (i + 1)
@@ -281,41 +276,14 @@ module _ {s : List ℕ} {h : Head} {n total : ℕ} {held : List ℕ} (w : WholeB
         ∙ ap (λ (k : ℕ). get_or (places h.grouped 19 (entries_of w.told)) k 0) m ∙ end_place h.grouped 19 (entries_of w.told)
         ∙ ap (λ (k : ℕ). 19 + route_size h.grouped * k + 9 * total_corners (entries_of w.told)) (sym m)
 
-    pub total_wrong : (get_or held n 0 ≡ 19 + route_size h.grouped * n + 9 * total → ⊥) → Refused (Miscounted (get_or held n 0)) ≡ (reading_of (parse_plan s)).answer
+    pub total_wrong : (get_or held n 0 ≡ 19 + route_size h.grouped * n + 9 * total → ⊥) → Err (Miscounted (get_or held n 0)) ≡ reading_of (parse_plan s)
     total_wrong d =
         refusing_is s _
         (at_end ∙ simp (ne_eqb total (total_corners (entries_of w.told)) (λ z. d (ends ∙ ap (λ (m : ℕ). 19 + route_size h.grouped * n + 9 * m) (sym z)))))
 
-    pub all_right : get_or held n 0 ≡ 19 + route_size h.grouped * n + 9 * total → Accepted ≡ (reading_of (parse_plan s)).answer
+    pub all_right : get_or held n 0 ≡ 19 + route_size h.grouped * n + 9 * total → Ok (record { head = h; places = held }) ≡ reading_of (parse_plan s)
     unfolding reading_of
     all_right e =
         let t : total ≡ total_corners (entries_of w.told) = omega (arith, ends) in
         let right : parse_plan s ≡ accepted h (entries_of w.told) = at_end ∙ simp (eq-eqb total (total_corners (entries_of w.told)) t) in
-        sym (ap (λ p. (reading_of p).answer) right)
-
-  -- ---- the reading, by the answer
-
-  -- a whole book that is accepted is read as its head and its places
-  accepted_by : (p : Parsed) → agreed h w.told total ≡ p → Accepted ≡ (reading_of p).answer
-      → ◌≡◌ {A = Reading} (record { answer = Accepted; head = h; places = held }) (reading_of p)
-  unfolding reading_of
-  accepted_by (accepted f es) e a =
-      let r = agreed_right h w.told total f es e in
-      λ i. record {
-        answer = Accepted;
-        head = r.head i;
-        places = (w.places ∙ λ j. padded (places (r.head j).grouped 19 (r.entries j))) i;
-      }
-  accepted_by (refused x) e a = absurd (never_both x a)
-
-  pub accepted_reading : Accepted ≡ (reading_of (parse_plan s)).answer → ◌≡◌ {A = Reading} (record { answer = Accepted; head = h; places = held }) (reading_of (parse_plan s))
-  accepted_reading a = accepted_by (parse_plan s) (sym w.is) a
-
--- a book whose answer is a refusal is read as that refusal
-refused_as : (x : Refusal) (p : Parsed) → Refused x ≡ (reading_of p).answer → reading_of (refused x) ≡ reading_of p
-unfolding reading_of
-refused_as x (accepted h es) e = absurd (never_both x (sym e))
-refused_as x (refused y) e = let same : x ≡ y = cc in ap (λ q. reading_of (refused q)) same
-
-pub refused_reading : (s : List ℕ) (x : Refusal) → Refused x ≡ (reading_of (parse_plan s)).answer → reading_of (refused x) ≡ reading_of (parse_plan s)
-refused_reading s x e = refused_as x (parse_plan s) e
+        ap (λ (l : List ℕ). Ok (record { head = h; places = l })) w.places ∙ sym (ap reading_of right)

@@ -13,6 +13,9 @@ use Rattle.plan.specs.Records.{route_size}
 use Rattle.records.specs.declared.Record.TheVariants as rec
 use Rattle.records.specs.Records.{record_of}
 use Rattle.book.specs.declared.Corner.{Corner}
+use Rattle.book.specs.declared.Route.{Route}
+use Rattle.refusal.specs.declared.Refusal.{Refusal}
+use Rattle.std.specs.Prelude.{Result, Ok, Err}
 use Rattle.book.specs.declared.Walk.{Walk}
 use Rattle.book.specs.declared.Step.{Step}
 use Rattle.book.specs.declared.Step.TheVariants as step
@@ -86,11 +89,11 @@ module _ (s : List ℕ) where
 
   -- ---- record by record
 
-  reads_route : (at : ℕ) (w : Walk) (number meets said centre : ℕ) (k : Rest) → w.corners ≤ 127
-      → TookRoute (drop at s) w (record_of (drop at s)) number meets said centre → Reads (at + route_size w.grouped) (begun w) k
-      → Reads at w (with_route number meets said centre k)
+  reads_route : (at : ℕ) (w : Walk) (r : Route) (k : Rest) → w.corners ≤ 127
+      → TookRoute (drop at s) w (record_of (drop at s)) r → Reads (at + route_size w.grouped) (begun w) k
+      → Reads at w (with_route r k)
   unfolding CornersAt RoutesAt
-  reads_route at w number meets said centre (rest cs ts total) h k t =
+  reads_route at w r (rest cs ts total) h k t =
       record {
         corners = tt;
         routes = rw (add-zero at) (record { is = k.is; corners = t.corners; few = omega (arith, t.short) }, t.routes);
@@ -98,7 +101,7 @@ module _ (s : List ℕ) where
         few = omega (arith, t.few);
         first = λ e. refl;
       }
-  reads_route at w number meets said centre (stopped x) h k t = tt
+  reads_route at w r (stopped x) h k t = tt
 
   reads_corner : (at : ℕ) (w : Walk) (c : Corner) (k : Rest) → TookCorner (drop at s) w (record_of (drop at s)) c → Reads (at + 9) (passed w c) k
       → Reads at w (with_corner c k)
@@ -131,14 +134,14 @@ module _ (s : List ℕ) where
   rest_reads (suc n) at w h k =
       go (step_of at w (drop at s)) (step_took at w (drop at s)) (λ m v q r. rw (drop-drop m at s) (rest_reads n (at + m) v q r))
     where
-      go : (st : Step) → Took (drop at s) w (record_of (drop at s)) st
+      go : (st : Result Step Refusal) → Took (drop at s) w (record_of (drop at s)) st
           → ((m : ℕ) (v : Walk) → v.routes ≤ 32 → v.corners ≤ 127 → Reads (at + m) v (rest_from n (at + m) v (drop m (drop at s))))
           → Reads at w (proceed (rest_from n) at w (drop at s) st)
-      go (step.Route number meets said centre) f later =
+      go (Ok (step.Route r)) f later =
           let size = route_size w.grouped in
-          reads_route at w number meets said centre (rest_from n (at + size) (begun w) (drop size (drop at s))) k f
+          reads_route at w r (rest_from n (at + size) (begun w) (drop size (drop at s))) k f
           (later size (begun w) (omega (arith, f.room)) (omega arith))
-      go (step.Corner c) f later =
+      go (Ok (step.Corner c)) f later =
           reads_corner at w c (rest_from n (at + 9) (passed w c) (drop 9 (drop at s))) f (later 9 (passed w c) h (omega (arith, f.room)))
-      go (step.End total) f later = record { corners = tt; routes = tt; short = omega arith; few = omega arith; first = λ e. refl }
-      go (step.Refuse x) f later = tt
+      go (Ok (step.End total)) f later = record { corners = tt; routes = tt; short = omega arith; few = omega arith; first = λ e. refl }
+      go (Err x) f later = tt

@@ -12,7 +12,9 @@ use lib.Seq.{length-take-le}
 use borrow.Author.Tests.{lt-ltb, le-ltb, leb-false, eqb-false}
 use Rattle.network.proofs.Tests.{neither}
 use Rattle.job.proofs.Prefix.{drop_take, word2_take, word4_take, by_length}
+use Rattle.refusal.specs.declared.Refusal.{Refusal}
 use Rattle.refusal.specs.declared.Refusal.TheVariants.{NotWhole}
+use Rattle.std.specs.Prelude.{Result, Ok, Err}
 use Rattle.plan.specs.Records.{route_size}
 use Rattle.plan.proofs.Length.{route_size_lem}
 use Rattle.records.specs.declared.Record.{Record}
@@ -108,8 +110,8 @@ module _ (at : ℕ) (w : Walk) where
   left_same k l rec.Other i j = refl
 
   -- a record that is refused as not whole is refused so where it is cut off
-  cut : (left : ℕ) (t : Bool) (g : Record) → step_by at w left g ≡ step.Refuse (NotWhole at)
-      → step_by at w left (cond t rec.Other g) ≡ step.Refuse (NotWhole at)
+  cut : (left : ℕ) (t : Bool) (g : Record) → step_by at w left g ≡ Err (NotWhole at)
+      → step_by at w left (cond t rec.Other g) ≡ Err (NotWhole at)
   unfolding step_by
   cut left true g e = refl
   cut left false g e = e
@@ -127,8 +129,8 @@ module _ (at : ℕ) (w : Walk) where
         ap (step_by at w (suc (length (take m b)))) e ∙ left_same (suc (length (take m b))) (suc (length b)) h (omega arith) (omega arith)
 
     -- of two that are refused as not whole, cut off or not
-    same_refused : (size : ℕ) (g h : Record) → step_by at w (suc (length (take m b))) g ≡ step.Refuse (NotWhole at)
-        → step_by at w (suc (length b)) h ≡ step.Refuse (NotWhole at) → Same (whole size (take m b) g) (whole size b h)
+    same_refused : (size : ℕ) (g h : Record) → step_by at w (suc (length (take m b))) g ≡ Err (NotWhole at)
+        → step_by at w (suc (length b)) h ≡ Err (NotWhole at) → Same (whole size (take m b) g) (whole size b h)
     same_refused size g h e f =
         cut (suc (length (take m b))) (ltb (length (take m b)) size) g e ∙ sym (cut (suc (length b)) (ltb (length b) size) h f)
 
@@ -208,20 +210,20 @@ rest_take (suc f) (suc g) at w m b i j n h =
     ap (rest_from f (at + k) v) (drop_take k m b)
     ∙ rest_take f g (at + k) v (m - k) (drop k b) (omega (arith, length-take m b, length-take (m - k) (drop k b))) (omega arith) q (omega arith))
   where
-    go : (s : Step) → Took b w (record_of b) s
+    go : (s : Result Step Refusal) → Took b w (record_of b) s
         → ((k : ℕ) (v : Walk) → 0 < k → k ≤ length b → Near (at + k) v → rest_from f (at + k) v (drop k (take m b)) ≡ rest_from g (at + k) v (drop k b))
         → proceed (rest_from f) at w (take m b) s ≡ proceed (rest_from g) at w b s
-    go (step.Route number meets said centre) t later =
+    go (Ok (step.Route r)) t later =
         let (some, most) = route_size_lem w.grouped in
-        ap (with_route number meets said centre)
+        ap (with_route r)
         (later (route_size w.grouped) (begun w) (omega arith) t.long
         (record { few = omega (arith, t.room); behind = omega (arith, n.behind); inside = λ _. omega (arith, n.behind) }))
-    go (step.Corner c) t later =
+    go (Ok (step.Corner c)) t later =
         let near = n.inside t.begun in
         ap (with_corner c)
         (later 9 (passed w c) (omega arith) t.long (record { few = n.few; behind = omega (arith, t.room); inside = λ _. omega arith }))
-    go (step.End total) t later = refl
-    go (step.Refuse x) t later = refl
+    go (Ok (step.End total)) t later = refl
+    go (Err x) t later = refl
 
 -- ---- the book
 

@@ -18,11 +18,12 @@ use Rattle.records.specs.Records.{record_of}
 use Rattle.book.specs.declared.Corner.{Corner}
 use Rattle.book.specs.declared.Walk.{Walk}
 use Rattle.book.specs.declared.Step.TheVariants as step
-use Rattle.book.specs.declared.Stop.TheVariants as stop
+use Rattle.book.specs.declared.Route.{Route}
+use Rattle.std.specs.Prelude.{Some, None, Ok, Err}
 use Rattle.book.specs.declared.Run.{Run}
 use Rattle.book.specs.Parse.{start, begun, passed, step_of, Rest, proceed, rest_from, is_grouped, rest_of}
 use Rattle.book.specs.Reading.{padded}
-use Rattle.book.specs.Shape.{whole, broken, shape_by, shape_of, Passes, none, more, Runs}
+use Rattle.book.specs.Shape.{whole, broken, shape_by, shape_of, Passes, none, more, Runs, Breaks}
 use Rattle.book.proofs.Taken.{record_long, head_grouped, TookRoute, TookCorner, step_took}
 use Rattle.book.proofs.Summary.{
   Summary,
@@ -99,11 +100,11 @@ so_far_none s h e =
     }
 
 -- a corner that is taken
-pub took_corner : (s : List ℕ) (at : ℕ) (w : Walk) (c : Corner) → step_of at w (drop at s) ≡ step.Corner c → TookCorner (drop at s) w (record_of (drop at s)) c
+pub took_corner : (s : List ℕ) (at : ℕ) (w : Walk) (c : Corner) → step_of at w (drop at s) ≡ Ok (step.Corner c) → TookCorner (drop at s) w (record_of (drop at s)) c
 took_corner s at w c e = rw e at (step_took at w (drop at s))
 
 -- is whole
-pub corner_room : (s : List ℕ) (at : ℕ) (w : Walk) (c : Corner) → at ≤ length s → step_of at w (drop at s) ≡ step.Corner c → at + 9 ≤ length s
+pub corner_room : (s : List ℕ) (at : ℕ) (w : Walk) (c : Corner) → at ≤ length s → step_of at w (drop at s) ≡ Ok (step.Corner c) → at + 9 ≤ length s
 corner_room s at w c h e = omega (arith, (took_corner s at w c e).long, length-drop at s)
 
 module _ (s held : List ℕ) (at : ℕ) (w : Walk) (h : SoFar s held at w) where
@@ -120,8 +121,8 @@ module _ (s held : List ℕ) (at : ℕ) (w : Walk) (h : SoFar s held at w) where
       go (suc f) l e = (f, l, e)
 
   -- a route
-  module _ (number meets said centre : ℕ) (e : step_of at w (drop at s) ≡ step.Route number meets said centre) where
-    pub took_route : TookRoute (drop at s) w (record_of (drop at s)) number meets said centre
+  module _ (r : Route) (e : step_of at w (drop at s) ≡ Ok (step.Route r)) where
+    pub took_route : TookRoute (drop at s) w (record_of (drop at s)) r
     took_route = rw e at (step_took at w (drop at s))
 
     pub so_far_route : SoFar s (set held w.routes at) (at + route_size w.grouped) (begun w)
@@ -145,7 +146,7 @@ module _ (s held : List ℕ) (at : ℕ) (w : Walk) (h : SoFar s held at w) where
               (sym (drop-drop size at s))
               ∙ sym (after_more h.before at (summary w.grouped (at + size) (rest_from f (at + size) (begun w) (drop size (drop at s)))))
               ∙ ap (after h.before)
-              (sym (route_summary w.grouped at number meets said centre (rest_from f (at + size) (begun w) (drop size (drop at s)))))
+              (sym (route_summary w.grouped at r (rest_from f (at + size) (begun w) (drop size (drop at s)))))
               ∙ (rw e at rests);
         }
 
@@ -154,7 +155,7 @@ module _ (s held : List ℕ) (at : ℕ) (w : Walk) (h : SoFar s held at w) where
     route_less = omega (arith, took_route.long, length-drop at s, h.within, route_size_lem w.grouped)
 
   -- a corner
-  module _ (c : Corner) (e : step_of at w (drop at s) ≡ step.Corner c) where
+  module _ (c : Corner) (e : step_of at w (drop at s) ≡ Ok (step.Corner c)) where
     so_far_corner : SoFar s held (at + 9) (passed w c)
     so_far_corner =
         let (f, l, rests) = stepped in
@@ -185,7 +186,7 @@ module _ (s held : List ℕ) (at : ℕ) (w : Walk) (h : SoFar s held at w) where
       ap (shaped hd) (rests ∙ ap (λ (g : Bool). summary g 19 (rest_of s)) (head_grouped s hd e)) ∙ shape_shaped hd (rest_of s)
       ∙ ap (λ g. shape_by g (rest_of s)) (sym e)
 
-  pub so_far_end : (hd : Head) (total : ℕ) → record_of s ≡ rec.Head hd → step_of at w (drop at s) ≡ step.End total
+  pub so_far_end : (hd : Head) (total : ℕ) → record_of s ≡ rec.Head hd → step_of at w (drop at s) ≡ Ok (step.End total)
       → whole hd w.routes total (set held w.routes at) ≡ shape_of s
   so_far_end hd total e t =
       let (f, l, rests) = stepped in
@@ -194,7 +195,7 @@ module _ (s held : List ℕ) (at : ℕ) (w : Walk) (h : SoFar s held at w) where
       (λ i. whole hd (n i) total (l i))
       ∙ shape_is hd (found (h.before ++ (at ∷ [])) total) e (ap (after h.before) (sym (end_summary w.grouped at total)) ∙ (rw t at rests))
 
-  pub so_far_refused : (hd : Head) (x : Refusal) → record_of s ≡ rec.Head hd → step_of at w (drop at s) ≡ step.Refuse x → broken x ≡ shape_of s
+  pub so_far_refused : (hd : Head) (x : Refusal) → record_of s ≡ rec.Head hd → step_of at w (drop at s) ≡ Err x → broken x ≡ shape_of s
   so_far_refused hd x e t =
       let (f, l, rests) = stepped in
       shape_is hd (halted x) e (rw t at rests)
@@ -216,12 +217,13 @@ module _ (s held : List ℕ) (at : ℕ) (w : Walk) (h : SoFar s held at w) (r : 
   pub run_so_far : SoFar s held r.at r.walk
   run_so_far = so_far_passes s held at w r.at r.walk h k.passes
 
-  pub run_route : r.stop ≡ stop.Route
-      → (number : ℕ) × (meets : ℕ) × (said : ℕ) × (centre : ℕ) × (step_of r.at r.walk (drop r.at s) ≡ step.Route number meets said centre)
+  pub run_route : r.end ≡ None
+      → (q : Route) × (step_of r.at r.walk (drop r.at s) ≡ Ok (step.Route q))
   run_route e = rw e at k.stops
 
-  pub run_end : (total : ℕ) → r.stop ≡ stop.End total → step_of r.at r.walk (drop r.at s) ≡ step.End total
+  pub run_end : (total : ℕ) → r.end ≡ Some total → step_of r.at r.walk (drop r.at s) ≡ Ok (step.End total)
   run_end total e = rw e at k.stops
 
-  pub run_refused : (x : Refusal) → r.stop ≡ stop.Refuse x → step_of r.at r.walk (drop r.at s) ≡ step.Refuse x
-  run_refused x e = rw e at k.stops
+-- or what is refused
+pub break_refused : (s held : List ℕ) (at : ℕ) (w : Walk) → SoFar s held at w → (hd : Head) (x : Refusal) → record_of s ≡ rec.Head hd → Breaks s at w x → broken x ≡ shape_of s
+break_refused s held at w h hd x e k = so_far_refused s held k.to k.walk (so_far_passes s held at w k.to k.walk h k.passes) hd x e k.refused

@@ -24,6 +24,8 @@ use Rattle.records.specs.declared.Record.TheVariants as rec
 use Rattle.records.specs.Records.{record_of}
 use Rattle.records.proofs.Records.{head_read, route_read, corner_read, end_read}
 use Rattle.book.specs.declared.Corner.{Corner}
+use Rattle.book.specs.declared.Route.{Route}
+use Rattle.std.specs.Prelude.{Ok, Err}
 use Rattle.book.specs.declared.Walk.{Walk}
 use Rattle.book.specs.declared.Step.TheVariants as step
 use Rattle.book.specs.Parse.{
@@ -115,7 +117,7 @@ one f at w b g e = ap (λ q. proceed (rest_from f) at w b (step_by at w (length 
 
 -- a corner that passes is taken
 taken : (at : ℕ) (w : Walk) (left : ℕ) (p : Point) → 0 < w.routes → w.corners < 127 → PointIn p → no_turn w (record { x = p.x; y = p.y }) ≡ false
-    → step_by at w left (rec.Corner (word_of p.x) (word_of p.y)) ≡ step.Corner (record { x = p.x; y = p.y })
+    → step_by at w left (rec.Corner (word_of p.x) (word_of p.y)) ≡ Ok (step.Corner (record { x = p.x; y = p.y }))
 unfolding step_by corner_step
 taken at w left p h k i n =
     ap₂ (λ x y. corner_step at w (record { x = x; y = y })) (biased_of_word p.x i.x_in) (biased_of_word p.y i.y_in)
@@ -164,14 +166,15 @@ tail_back g (e ∷ es) total t r (suc f) at w kinds l m =
     append_assoc (entry_bytes g e) (flat_map (entry_bytes g) es) (end_record total) ∙ append_assoc head (flat_map corner_record e.corners) (tail_of g es total) in
     let q = r.0 in
     let size = route_size w.grouped in
+    let route : Route = record { number = e.number; meets = e.meets; corners = n; centre = e.centre } in
     ap (rest_from (suc f) at w) s
     ∙ one f at w (head ++ b) (rec.Route g e.number e.meets n e.centre)
     (route_read g e.number e.meets n e.centre b q.number_fits q.meets_fits (omega (arith, q.few)) q.centre_fits)
-    ∙ ap (λ u. proceed (rest_from f) at w (head ++ b) (cond u (step.Refuse (NotWhole at)) (step.Route e.number e.meets n e.centre)))
+    ∙ ap (λ u. proceed (rest_from f) at w (head ++ b) (cond u (Err (NotWhole at)) (Ok (step.Route route))))
     (ap₂ ◌||◌ (ap (mixed g) kinds ∙ mixed_same g) (lt-leb 32 w.routes (omega arith)))
-    ∙ ap (λ u. with_route e.number e.meets n e.centre (rest_from f (at + size) (begun w) u))
+    ∙ ap (λ u. with_route route (rest_from f (at + size) (begun w) u))
     (ap (λ k. drop (route_size k) (head ++ b)) kinds ∙ behind_route g e.number e.meets n e.centre b)
-    ∙ ap (with_route e.number e.meets n e.centre)
+    ∙ ap (with_route route)
     (corners_back g es total (tail_back g es total t r.1) e.corners f (at + size) (begun w) kinds
     (omega (arith, ap length s, length-append head b, route_length g e.number e.meets n e.centre, route_size_lem g)) (omega arith) (omega arith)
     (omega (arith, q.few)) q.in_range (passes_all (begun w) e.corners refl q.turning))

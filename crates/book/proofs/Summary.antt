@@ -13,6 +13,7 @@ use Rattle.plan.specs.Records.{route_size}
 use Rattle.plan.specs.Plan.{Entry}
 use Rattle.records.specs.declared.Record.TheVariants as rec
 use Rattle.book.specs.declared.Corner.{Corner}
+use Rattle.book.specs.declared.Route.{Route}
 use Rattle.book.specs.Parse.{Rest, rest, stopped, with_corner, with_route, entries_of, behind}
 use Rattle.book.specs.Reading.{places, padded}
 use Rattle.book.specs.Shape.{Shape, whole, broken, shape_by}
@@ -42,11 +43,11 @@ after_more l at (halted x) = refl
 
 -- a route, a corner and the end
 module _ (g : Bool) (at : ℕ) where
-  pub route_summary : (number meets said centre : ℕ) (k : Rest)
-      → summary g at (with_route number meets said centre k) ≡ after (at ∷ []) (summary g (at + route_size g) k)
-  route_summary number meets said centre (rest cs ts total) =
+  pub route_summary : (r : Route) (k : Rest)
+      → summary g at (with_route r k) ≡ after (at ∷ []) (summary g (at + route_size g) k)
+  route_summary r (rest cs ts total) =
       ap (λ (m : ℕ). found (m ∷ places g (m + route_size g + 9 * length cs) (entries_of ts)) total) (add-zero at)
-  route_summary number meets said centre (stopped x) = refl
+  route_summary r (stopped x) = refl
 
   pub corner_summary : (c : Corner) (k : Rest) → summary g at (with_corner c k) ≡ summary g (at + 9) k
   corner_summary c (rest cs ts total) =

@@ -10,12 +10,15 @@ use borrow.Author.Tests.{ltb-false, leb-false, eqb-false, not-false}
 use Rattle.job.specs.Fields.{word2, word4, biased_of}
 use Rattle.job.proofs.Decoded.{by_test}
 use Rattle.network.proofs.Tests.{neither}
+use Rattle.refusal.specs.declared.Refusal.{Refusal}
+use Rattle.std.specs.Prelude.{Result, Ok, Err}
 use Rattle.plan.specs.declared.Head.{Head}
 use Rattle.plan.specs.Records.{route_size}
 use Rattle.records.specs.declared.Record.{Record}
 use Rattle.records.specs.declared.Record.TheVariants as rec
 use Rattle.records.specs.Records.{whole, decoded, record_of}
 use Rattle.book.specs.declared.Corner.{Corner}
+use Rattle.book.specs.declared.Route.{Route}
 use Rattle.book.specs.declared.Walk.{Walk}
 use Rattle.book.specs.declared.Step.{Step}
 use Rattle.book.specs.declared.Step.TheVariants as step
@@ -59,8 +62,8 @@ head_grouped s h e = (rw e at (record_long s)).1
 -- ---- what is taken
 
 -- a route of the book's set of kinds: there were fewer than 32
-pub record TookRoute (b : List ℕ) (w : Walk) (g : Record) (number meets said centre : ℕ) : Type 0 where
-  pub is : g ≡ rec.Route w.grouped number meets said centre
+pub record TookRoute (b : List ℕ) (w : Walk) (g : Record) (r : Route) : Type 0 where
+  pub is : g ≡ rec.Route w.grouped r.number r.meets r.corners r.centre
   pub long : route_size w.grouped ≤ length b
   pub room : w.routes < 32
 
@@ -82,11 +85,11 @@ pub record TookEnd (b : List ℕ) (g : Record) (total : ℕ) : Type 0 where
   pub long : 3 ≤ length b
   pub short : length b ≤ 3
 
-abbrev pub Took : List ℕ → Walk → Record → Step → Type 0
-Took b w g (step.Route number meets said centre) = TookRoute b w g number meets said centre
-Took b w g (step.Corner c) = TookCorner b w g c
-Took b w g (step.End total) = TookEnd b g total
-Took b w g (step.Refuse x) = Unit {0}
+abbrev pub Took : List ℕ → Walk → Record → Result Step Refusal → Type 0
+Took b w g (Ok (step.Route r)) = TookRoute b w g r
+Took b w g (Ok (step.Corner c)) = TookCorner b w g c
+Took b w g (Ok (step.End total)) = TookEnd b g total
+Took b w g (Err x) = Unit {0}
 
 took_by : (at : ℕ) (w : Walk) (b : List ℕ) (g : Record) → Long b g → Took b w g (step_by at w (length b) g)
 unfolding step_by corner_step

@@ -1,7 +1,7 @@
 -- The test for a turn as facts about the corner and the two before it, and back; and that for two sets of kinds.
 use mathlib.Core.Path.{◌≡◌, refl, sym, ap, ap₂, ◌∙◌}
 use mathlib.Core.Logic.{◌⊎◌, inl, inr}
-use mathlib.Core.Bool.{Bool, true, false, not, ◌&&◌, ◌||◌, true≢false}
+use mathlib.Core.Bool.{Bool, true, false, not, beq, ◌&&◌, ◌||◌, true≢false}
 use Prim.Native.Nat.{◌≤◌}
 use lib.Dec.{leb, eqb}
 use borrow.Author.Tests.{leb-true, le-leb, eq-eqb, ne_eqb, eqb-true, eqb-false, not-true}
@@ -29,6 +29,20 @@ one_holds false false e = let z : ◌≡◌ {A = Bool} true false = e in absurd 
 holds_one : (a b : Bool) → OneHolds a b → (a && b || not a && not b) ≡ false
 holds_one a b (first e f) = rw (e, f) refl
 holds_one a b (second e f) = rw (e, f) refl
+
+-- whether two tests agree
+pub same_test : (a b : Bool) → beq a b ≡ (a && b || not a && not b)
+same_test true true = refl
+same_test true false = refl
+same_test false true = refl
+same_test false false = refl
+
+-- whether two sets of kinds differ
+pub mixed_test : (a b : Bool) → mixed a b ≡ not (beq a b)
+mixed_test true true = refl
+mixed_test true false = refl
+mixed_test false true = refl
+mixed_test false false = refl
 
 -- two sets of kinds that are not mixed are the same
 pub not_mixed : (a b : Bool) → mixed a b ≡ false → a ≡ b

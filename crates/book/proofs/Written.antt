@@ -23,6 +23,9 @@ use Rattle.records.specs.declared.Record.TheVariants as rec
 use Rattle.records.specs.Records.{record_of}
 use Rattle.records.proofs.Records.{Says, record_says, record_fits}
 use Rattle.book.specs.declared.Corner.{Corner}
+use Rattle.book.specs.declared.Route.{Route}
+use Rattle.refusal.specs.declared.Refusal.{Refusal}
+use Rattle.std.specs.Prelude.{Result, Ok, Err}
 use Rattle.book.specs.declared.Walk.{Walk}
 use Rattle.book.specs.declared.Step.{Step}
 use Rattle.book.specs.declared.Step.TheVariants as step
@@ -82,14 +85,14 @@ holds_corner g c (rest cs ts total) b tail e h =
 holds_corner g c (stopped x) b tail e h = tt
 
 -- one more route in front, with the corners behind it
-holds_route : (g : Bool) (number meets said centre : ℕ) (k : Rest) (b tail : List ℕ) → b ≡ route_record g number meets said centre ++ tail → Holds g tail k
-    → Holds g b (with_route number meets said centre k)
+holds_route : (g : Bool) (r : Route) (k : Rest) (b tail : List ℕ) → b ≡ route_record g r.number r.meets r.corners r.centre ++ tail → Holds g tail k
+    → Holds g b (with_route r k)
 unfolding flat_map
-holds_route g number meets said centre (rest cs ts total) b tail e h =
-    let r = route_record g number meets said centre in
-    e ∙ ap (λ l. r ++ l) h ∙ sym (append_assoc r (flat_map corner_record cs) _)
-    ∙ sym (append_assoc (r ++ flat_map corner_record cs) (flat_map (told_bytes g) ts) _)
-holds_route g number meets said centre (stopped x) b tail e h = tt
+holds_route g r (rest cs ts total) b tail e h =
+    let q = route_record g r.number r.meets r.corners r.centre in
+    e ∙ ap (λ l. q ++ l) h ∙ sym (append_assoc q (flat_map corner_record cs) _)
+    ∙ sym (append_assoc (q ++ flat_map corner_record cs) (flat_map (told_bytes g) ts) _)
+holds_route g r (stopped x) b tail e h = tt
 
 -- so the records that are taken are the bytes
 holds : (n at : ℕ) (w : Walk) (b : List ℕ) → Bytes b → Holds w.grouped b (rest_from n at w b)
@@ -97,18 +100,18 @@ unfolding rest_from flat_map
 holds zero at w b h = tt
 holds (suc n) at w b h = go (step_of at w b) (step_took at w b) (λ k a v. holds n a v (drop k b) (bytes_drop k b h))
   where
-    go : (s : Step) → Took b w (record_of b) s → ((k a : ℕ) (v : Walk) → Holds v.grouped (drop k b) (rest_from n a v (drop k b)))
+    go : (s : Result Step Refusal) → Took b w (record_of b) s → ((k a : ℕ) (v : Walk) → Holds v.grouped (drop k b) (rest_from n a v (drop k b)))
         → Holds w.grouped b (proceed (rest_from n) at w b s)
-    go (step.Route number meets said centre) t later =
+    go (Ok (step.Route r)) t later =
         let size = route_size w.grouped in
-        holds_route w.grouped number meets said centre (rest_from n (at + size) (begun w) (drop size b)) b (drop size b) (rw t.is at (record_says b h))
+        holds_route w.grouped r (rest_from n (at + size) (begun w) (drop size b)) b (drop size b) (rw t.is at (record_says b h))
         (later size (at + size) (begun w))
-    go (step.Corner c) t later =
+    go (Ok (step.Corner c)) t later =
         holds_corner w.grouped c (rest_from n (at + 9) (passed w c) (drop 9 b)) b (drop 9 b) (corner_bytes b w c h t) (later 9 (at + 9) (passed w c))
-    go (step.End total) t later =
+    go (Ok (step.End total)) t later =
         let says = rw t.is at (record_says b h) in
         says ∙ ap (λ l. end_record total ++ l) (drop_of_length-le b t.short)
-    go (step.Refuse x) t later = tt
+    go (Err x) t later = tt
 
 -- ---- the whole book
 

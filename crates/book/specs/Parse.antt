@@ -1,7 +1,7 @@
 -- Reading a plan book (document 02, C-12): "Records are checked front to back; counts are compared only after the last record, in the book's order." It "takes
 -- either set of kinds; a book with both is refused with 12" (C-16). Which books are accepted, and as what, `Right` says without reading (by `accepted_iff`).
 -- Assumes nothing.
-use Rattle.std.specs.Prelude.{Bool, false, cond, not, ◌&&◌, ◌||◌, List, [], ◌∷◌, map, ℕ, zero, suc, ◌+◌, ◌*◌, leb, ltb, eqb, length, get_or, drop}
+use Rattle.std.specs.Prelude.{Bool, false, cond, not, ◌&&◌, ◌||◌, List, [], ◌∷◌, map, ℕ, zero, suc, ◌+◌, ◌*◌, leb, ltb, eqb, length, get_or, drop, Result, Ok, Err}
 use Rattle.network.specs.Plane.{Point}
 use Rattle.refusal.specs.declared.Refusal.{Refusal}
 use Rattle.refusal.specs.declared.Refusal.TheVariants.{OutOfRange, NotWhole, NoTurn, Miscounted}
@@ -13,6 +13,7 @@ use Rattle.records.specs.declared.Record.{Record}
 use Rattle.records.specs.declared.Record.TheVariants as rec
 use Rattle.records.specs.Records.{record_of}
 use Rattle.book.specs.declared.Corner.{Corner}
+use Rattle.book.specs.declared.Route.{Route}
 use Rattle.book.specs.declared.Walk.{Walk}
 use Rattle.book.specs.declared.Step.{Step}
 use Rattle.book.specs.declared.Step.TheVariants as step
@@ -54,11 +55,11 @@ no_turn w c =
     leb 1 w.corners && (same_x && same_y || not same_x && not same_y) || leb 2 w.corners && (w.upright && same_x || not w.upright && same_y)
 
 -- "Within a record the order is 12, 8, 13": a corner before any route and "a 128th corner of one route" are 12
-unfoldable pub corner_step : (at : ℕ) → Walk → Corner → Step
+unfoldable pub corner_step : (at : ℕ) → Walk → Corner → Result Step Refusal
 corner_step at w c =
-    cond (eqb w.routes 0 || leb 127 w.corners) (step.Refuse (NotWhole at))
-    (cond (not (in_range c)) (step.Refuse (OutOfRange at))
-    (cond (no_turn w c) (step.Refuse (NoTurn at)) (step.Corner c)))
+    cond (eqb w.routes 0 || leb 127 w.corners) (Err (NotWhole at))
+    (cond (not (in_range c)) (Err (OutOfRange at))
+    (cond (no_turn w c) (Err (NoTurn at)) (Ok (step.Corner c))))
 
 -- 12: "a book with both" sets of kinds
 abbrev pub mixed : Bool → Bool → Bool
@@ -66,15 +67,15 @@ mixed a b = a && not b || not a && b
 
 -- The record that stands at a place, with so many bytes from there on. 12: "bytes that are not whole records in the order head, routes with their corners,
 -- end" (no whole record of a kind, or a second head), a route of the other set, "a 33rd route", and at its own place "a byte after the end".
-unfoldable pub step_by : (at : ℕ) → Walk → (left : ℕ) → Record → Step
-step_by at w left (rec.Head h) = step.Refuse (NotWhole at)
+unfoldable pub step_by : (at : ℕ) → Walk → (left : ℕ) → Record → Result Step Refusal
+step_by at w left (rec.Head h) = Err (NotWhole at)
 step_by at w left (rec.Route grouped number meets corners centre) =
-    cond (mixed grouped w.grouped || leb 32 w.routes) (step.Refuse (NotWhole at)) (step.Route number meets corners centre)
+    cond (mixed grouped w.grouped || leb 32 w.routes) (Err (NotWhole at)) (Ok (step.Route (record { number = number; meets = meets; corners = corners; centre = centre })))
 step_by at w left (rec.Corner x y) = corner_step at w (record { x = biased_of x; y = biased_of y })
-step_by at w left (rec.End total) = cond (ltb 3 left) (step.Refuse (NotWhole (at + 3))) (step.End total)
-step_by at w left rec.Other = step.Refuse (NotWhole at)
+step_by at w left (rec.End total) = cond (ltb 3 left) (Err (NotWhole (at + 3))) (Ok (step.End total))
+step_by at w left rec.Other = Err (NotWhole at)
 
-abbrev pub step_of : (at : ℕ) → Walk → List ℕ → Step
+abbrev pub step_of : (at : ℕ) → Walk → List ℕ → Result Step Refusal
 step_of at w bytes = step_by at w (length bytes) (record_of bytes)
 
 -- ---- all records
@@ -84,8 +85,8 @@ pub record Told : Type 0 where
   pub said : ℕ
   pub entry : Entry
 
-abbrev pub told : (number meets said centre : ℕ) → List Point → Told
-told number meets said centre cs = record { said = said; entry = record { number = number; meets = meets; centre = centre; corners = cs } }
+abbrev pub told : Route → List Point → Told
+told r cs = record { said = r.corners; entry = record { number = r.number; meets = r.meets; centre = r.centre; corners = cs } }
 
 -- the rest of a book: the corners that are left of the route at hand, the routes behind it, and the end's total
 pub data Rest : Type 0 where
@@ -96,16 +97,15 @@ abbrev pub with_corner : Corner → Rest → Rest
 with_corner c (rest cs ts total) = rest (point_of c ∷ cs) ts total
 with_corner c (stopped x) = stopped x
 
-abbrev pub with_route : (number meets said centre : ℕ) → Rest → Rest
-with_route number meets said centre (rest cs ts total) = rest [] (told number meets said centre cs ∷ ts) total
-with_route number meets said centre (stopped x) = stopped x
+abbrev pub with_route : Route → Rest → Rest
+with_route r (rest cs ts total) = rest [] (told r cs ∷ ts) total
+with_route r (stopped x) = stopped x
 
-abbrev pub proceed : (later : ℕ → Walk → List ℕ → Rest) → (at : ℕ) → Walk → List ℕ → Step → Rest
-proceed later at w bytes (step.Route number meets said centre) =
-    with_route number meets said centre (later (at + route_size w.grouped) (begun w) (drop (route_size w.grouped) bytes))
-proceed later at w bytes (step.Corner c) = with_corner c (later (at + 9) (passed w c) (drop 9 bytes))
-proceed later at w bytes (step.End total) = rest [] [] total
-proceed later at w bytes (step.Refuse x) = stopped x
+abbrev pub proceed : (later : ℕ → Walk → List ℕ → Rest) → (at : ℕ) → Walk → List ℕ → Result Step Refusal → Rest
+proceed later at w bytes (Ok (step.Route r)) = with_route r (later (at + route_size w.grouped) (begun w) (drop (route_size w.grouped) bytes))
+proceed later at w bytes (Ok (step.Corner c)) = with_corner c (later (at + 9) (passed w c) (drop 9 bytes))
+proceed later at w bytes (Ok (step.End total)) = rest [] [] total
+proceed later at w bytes (Err x) = stopped x
 
 -- the records from a place on, at most so many of them
 unfoldable pub rest_from : (records : ℕ) → (at : ℕ) → Walk → List ℕ → Rest

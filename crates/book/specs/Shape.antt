@@ -1,6 +1,6 @@
 -- What the contracts between speak of, and nothing that a law mentions: the shape of a book, which is what its records say before the counts are compared.
 -- Assumes nothing.
-use Rattle.std.specs.Prelude.{ℕ, ◌+◌, ◌*◌, ◌≡◌, List, length, drop}
+use Rattle.std.specs.Prelude.{ℕ, ◌+◌, ◌*◌, ◌≡◌, List, length, drop, Option, Some, None, Result, Ok, Err}
 use Rattle.refusal.specs.declared.Refusal.{Refusal}
 use Rattle.refusal.specs.declared.Refusal.TheVariants.{NotWhole}
 use Rattle.plan.specs.declared.Head.{Head}
@@ -8,11 +8,10 @@ use Rattle.records.specs.declared.Record.{Record}
 use Rattle.records.specs.declared.Record.TheVariants as rec
 use Rattle.records.specs.Records.{record_of}
 use Rattle.book.specs.declared.Corner.{Corner}
+use Rattle.book.specs.declared.Route.{Route}
 use Rattle.book.specs.declared.Walk.{Walk}
 use Rattle.book.specs.declared.Step.{Step}
 use Rattle.book.specs.declared.Step.TheVariants as step
-use Rattle.book.specs.declared.Stop.{Stop}
-use Rattle.book.specs.declared.Stop.TheVariants as stop
 use Rattle.book.specs.declared.Run.{Run}
 use Rattle.book.specs.Parse.{passed, step_of, Rest, rest, stopped, entries_of, rest_of}
 use Rattle.book.specs.Reading.{places, padded}
@@ -37,15 +36,21 @@ shape_of book = shape_by (record_of book) (rest_of book)
 -- from a place on, with what is known there, corners are taken up to another place
 pub data Passes (s : List ℕ) (at : ℕ) (w : Walk) : (to : ℕ) → Walk → Type 0 where
   none : Passes s at w at w
-  more : (to : ℕ) (v : Walk) (c : Corner) → Passes s at w to v → step_of to v (drop to s) ≡ step.Corner c → Passes s at w (to + 9) (passed v c)
+  more : (to : ℕ) (v : Walk) (c : Corner) → Passes s at w to v → step_of to v (drop to s) ≡ Ok (step.Corner c) → Passes s at w (to + 9) (passed v c)
 
--- a step that takes no corner
-abbrev pub Stops : Step → Stop → Type 0
-Stops st stop.Route = (number : ℕ) × (meets : ℕ) × (said : ℕ) × (centre : ℕ) × (st ≡ step.Route number meets said centre)
-Stops st (stop.End total) = st ≡ step.End total
-Stops st (stop.Refuse x) = st ≡ step.Refuse x
+-- a step that takes no corner: a route, or the end with its total
+abbrev pub Stops : Result Step Refusal → Option ℕ → Type 0
+Stops st None = (r : Route) × (st ≡ Ok (step.Route r))
+Stops st (Some total) = st ≡ Ok (step.End total)
 
 -- the corners that are taken, and what stands behind them
 pub record Runs (s : List ℕ) (at : ℕ) (w : Walk) (r : Run) : Type 0 where
   pub passes : Passes s at w r.at r.walk
-  pub stops : Stops (step_of r.at r.walk (drop r.at s)) r.stop
+  pub stops : Stops (step_of r.at r.walk (drop r.at s)) r.end
+
+-- or the record behind them is refused
+pub record Breaks (s : List ℕ) (at : ℕ) (w : Walk) (x : Refusal) : Type 0 where
+  pub to : ℕ
+  pub walk : Walk
+  pub passes : Passes s at w to walk
+  pub refused : step_of to walk (drop to s) ≡ Err x

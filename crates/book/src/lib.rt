@@ -4,10 +4,9 @@
 mod scan;
 mod steps;
 
-ghost use Rattle.std.specs.Prelude.{◌≡◌, ◌+◌, ◌*◌, ◌≤◌, ◌<◌, get_or, drop};
+ghost use Rattle.std.specs.Prelude.{◌≡◌, ◌<◌, drop, MatchResult, Ok, Err};
 ghost use Rattle.records.specs.Records.{record_of};
-ghost use Rattle.plan.specs.Records.{route_size};
-ghost use Rattle.book.specs.Parse.{refused, is_grouped, parse_plan};
+ghost use Rattle.book.specs.Parse.{start, begun, passed, parse_plan};
 ghost use Rattle.book.specs.Shape.{whole, shape_of};
 ghost use Rattle.book.specs.Reading.{figures_of, route_of, corner_of, reading_of, route_by, corner_by};
 
@@ -15,46 +14,27 @@ use plan::Head;
 use records::Record;
 use refusal::Refusal;
 
-// What reading says of a book.
-#[derive(Clone, Copy)]
-pub enum Answer {
-    Accepted,
-    Refused(Refusal),
-}
-
-// What reading gives, by value: the answer, the head, and the places of the routes, with that of the end behind them and 0 after it. The head of a
-// refusal has the figures 0, and its places are 0.
+// A book that is read: its head, and the places of its routes, with that of the end behind them and 0 after it.
 #[derive(Clone, Copy)]
 pub struct Reading {
-    pub answer: Answer,
     pub head: Head,
     pub places: [u32; 33],
 }
 
-// The figures of a plan.
-#[derive(Clone, Copy)]
-pub enum Figures {
-    Found(Head),
-    Nothing,
-}
-
 // A route: its run number, how many runs that one meets, how many corners the route has, and the run number of its group's centre, 0 in an older book.
-#[derive(Clone, Copy)]
-pub enum Route {
-    Found {
-        number: u32,
-        meets: u32,
-        corners: u32,
-        centre: u32,
-    },
-    Nothing,
+#[derive(Clone, Copy, PartialEq)]
+pub struct Route {
+    pub number: u32,
+    pub meets: u32,
+    pub corners: u32,
+    pub centre: u32,
 }
 
 // A corner, in decimetres.
-#[derive(Clone, Copy)]
-pub enum Spot {
-    Found { x: i32, y: i32 },
-    Nothing,
+#[derive(Clone, Copy, PartialEq)]
+pub struct Spot {
+    pub x: i32,
+    pub y: i32,
 }
 
 // A corner, each coordinate the decimetres plus 1,000,000: above 2,000,000 where it lies outside its range.
@@ -74,34 +54,62 @@ pub struct Walk {
     pub upright: bool,
 }
 
+impl Walk {
+    // Before the first route.
+    pub fn start(grouped: bool) -> Walk
+        ensures { result ≡ start grouped }
+    {
+        Walk {
+            grouped,
+            routes: 0,
+            corners: 0,
+            last: Corner { x: 0, y: 0 },
+            upright: false,
+        }
+    }
+
+    // One more route.
+    pub fn begin(self) -> Walk
+        requires { self.routes < 32 }
+        ensures { result ≡ begun self }
+    {
+        Walk {
+            routes: self.routes + 1,
+            corners: 0,
+            upright: false,
+            ..self
+        }
+    }
+
+    // One more corner of the route.
+    pub fn pass(self, c: Corner) -> Walk
+        requires { self.corners < 127 }
+        ensures { result ≡ passed self c }
+    {
+        Walk {
+            corners: self.corners + 1,
+            last: c,
+            upright: self.last.x == c.x,
+            ..self
+        }
+    }
+}
+
 // What a record after the head says.
 #[derive(Clone, Copy)]
 pub enum Step {
-    Route {
-        number: u32,
-        meets: u32,
-        corners: u32,
-        centre: u32,
-    },
+    Route(Route),
     Corner(Corner),
     End(u32),
-    Refuse(Refusal),
 }
 
-// Where no more corner is taken: a route, the end, or a refusal.
-#[derive(Clone, Copy)]
-pub enum Stop {
-    Route,
-    End(u32),
-    Refuse(Refusal),
-}
-
-// Corners that are taken one behind the other: the place behind them, what is known there, and what stands there.
+// Corners that are taken one behind the other: the place behind them, what is known there, and the total that the end tells, if the end stands there; if
+// not, a route does.
 #[derive(Clone, Copy)]
 pub struct Run {
     pub at: usize,
     pub walk: Walk,
-    pub stop: Stop,
+    pub end: Option<u32>,
 }
 
 pub fn wide(x: u32) -> usize
@@ -114,219 +122,148 @@ pub fn wide(x: u32) -> usize
 fn record_at(book: &[u8], at: usize) -> Record
     ensures { result ≡ record_of (drop at book.now) }
 {
-    if at > book.len() {
+    let Some(rest) = book.get(at..) else {
         return Record::Other;
-    }
-    records::first_record(&book[at..])
-}
-
-// The reading of a refusal.
-fn refuse(refusal: Refusal) -> Reading
-    ensures { result ≡ reading_of (refused refusal) }
-{
-    Reading {
-        answer: Answer::Refused(refusal),
-        head: Head {
-            grouped: false,
-            job: 0,
-            runs: 0,
-            trench: 0,
-            saved: 0,
-            pits: 0,
-            last: 0,
-        },
-        places: [0; 33],
-    }
-}
-
-// The place of the end behind so many routes with so many corners in total.
-fn end_of(grouped: bool, routes: usize, corners: usize) -> usize
-    requires { (routes ≤ 32) × (corners < 4294967296) }
-    ensures { result ≡ 19 + route_size grouped * routes + 9 * corners }
-{
-    if grouped {
-        return 19 + 9 * routes + 9 * corners;
-    }
-    19 + 7 * routes + 9 * corners
+    };
+    records::first_record(rest)
 }
 
 // Compares the counts of a book that is whole, in the book's order. A route record stands at each place, so its corners are looked up there at once.
-fn compare(book: &[u8], head: Head, places: &[u32; 33], n: usize, total: u32) -> Answer
-    requires { whole head n total places.now ≡ shape_of book.now }
-    ensures { result ≡ (reading_of (parse_plan book.now)).answer }
+fn compare(
+    book: &[u8],
+    head: &Head,
+    places: &[u32; 33],
+    n: usize,
+    total: u32,
+) -> Result<(), Refusal>
+    requires { whole head.now n total places.now ≡ shape_of book.now }
+    ensures { MatchResult result
+        (λ _. Ok (record { head = head.now; places = places.now }) ≡ reading_of (parse_plan book.now))
+        (λ x. Err x ≡ reading_of (parse_plan book.now)) }
 {
     let size = records::route_size(head.grouped);
     if wide(head.runs) != n {
-        return Answer::Refused(Refusal::Miscounted(0));
+        return Err(Refusal::Miscounted(0));
     }
-    let mut i: usize = 0;
-    while i < n {
+    for i in 0..n {
         let at = wide(places[i]);
         let end = wide(places[i + 1]);
         let said = wide(job::le16(book, at + 5));
-        if (end == at + size) | !(end == at + size + 9 * said) {
-            return Answer::Refused(Refusal::Miscounted(at));
+        if (end == at + size) | (end != at + size + 9 * said) {
+            return Err(Refusal::Miscounted(at));
         }
-        i += 1;
     }
     let end = wide(places[n]);
-    if end != end_of(head.grouped, n, wide(total)) {
-        return Answer::Refused(Refusal::Miscounted(end));
+    if end != 19 + size * n + 9 * wide(total) {
+        return Err(Refusal::Miscounted(end));
     }
-    Answer::Accepted
+    Ok(())
 }
 
 // Reads a plan book, for every list of bytes: the records front to back, then their counts. The places stand where they are gathered until they are given:
 // handed on, they would be copied.
-pub fn read(book: &[u8]) -> Reading
+pub fn read(book: &[u8]) -> Result<Reading, Refusal>
     ensures { result ≡ reading_of (parse_plan book.now) }
 {
-    let first = records::first_record(book);
-    let Record::Head(head) = first else {
-        return refuse(Refusal::NotWhole(0));
+    let Record::Head(head) = records::first_record(book) else {
+        return Err(Refusal::NotWhole(0));
     };
     let mut places = [0u32; 33];
     let mut at: usize = 19;
-    let mut w = steps::start(head.grouped);
+    let mut walk = Walk::start(head.grouped);
     loop {
-        let run = scan::run_from(book, at, w);
-        let walk = run.walk;
-        let stop = run.stop;
-        let n = walk.routes;
-        match stop {
-            Stop::Route => {
-                places[n] = run.at as u32;
-                w = steps::begin(walk);
-                at = run.at + records::route_size(walk.grouped);
-            }
-            Stop::End(total) => {
-                places[n] = run.at as u32;
-                match compare(book, head, &places, n, total) {
-                    Answer::Accepted => {
-                        return Reading {
-                            answer: Answer::Accepted,
-                            head,
-                            places,
-                        };
-                    }
-                    Answer::Refused(miscounted) => {
-                        return refuse(miscounted);
-                    }
-                }
-            }
-            Stop::Refuse(refusal) => {
-                return refuse(refusal);
-            }
+        let run = scan::run_from(book, at, walk)?;
+        let n = run.walk.routes;
+        places[n] = run.at as u32;
+        if let Some(total) = run.end {
+            compare(book, &head, &places, n, total)?;
+            return Ok(Reading { head, places });
         }
+        walk = run.walk.begin();
+        at = run.at + records::route_size(walk.grouped);
     }
 }
 
 // ---- by places: one look at them, and one record of the book
 
-// The place with an index, 0 after the last.
-fn place_in(places: &[u32], i: usize) -> usize
-    ensures { (result ≡ get_or places.now i 0) × (result < 4294967296) }
-{
-    if i >= places.len() {
-        return 0;
-    }
-    wide(places[i])
-}
-
 // Route i of a book, by the places that reading it gave.
-pub fn route_in(book: &[u8], places: &[u32], i: usize) -> Route
+pub fn route_in(book: &[u8], places: &[u32], i: usize) -> Option<Route>
     ensures { result ≡ route_by book.now places.now i }
 {
-    if i >= places.len() {
-        return Route::Nothing;
+    let at = *places.get(i)?;
+    let next = *places.get(i + 1)?;
+    if at >= next {
+        return None;
     }
-    let at = place_in(places, i);
-    if at >= place_in(places, i + 1) {
-        return Route::Nothing;
-    }
-    let found = record_at(book, at);
     let Record::Route {
-        grouped,
         number,
         meets,
         corners,
         centre,
-    } = found
+        ..
+    } = record_at(book, wide(at))
     else {
-        return Route::Nothing;
+        return None;
     };
-    Route::Found {
+    Some(Route {
         number,
         meets,
         corners,
         centre,
-    }
-}
-
-// Whether a book begins with the newer kind of a head.
-fn is_grouped(book: &[u8]) -> bool
-    ensures { result ≡ is_grouped book.now }
-{
-    if book.len() == 0 {
-        return false;
-    }
-    book[0] == 0x51
+    })
 }
 
 // Corner j of route i of a book, by the places that reading it gave.
-pub fn corner_in(book: &[u8], places: &[u32], i: usize, j: usize) -> Spot
+pub fn corner_in(book: &[u8], places: &[u32], i: usize, j: usize) -> Option<Spot>
     ensures { result ≡ corner_by book.now places.now i j }
 {
-    if i >= places.len() {
-        return Spot::Nothing;
-    }
+    let start = *places.get(i)?;
+    let next = *places.get(i + 1)?;
     if j >= 127 {
-        return Spot::Nothing;
+        return None;
     }
-    let size = records::route_size(is_grouped(book));
-    let at = place_in(places, i) + size + 9 * j;
-    if at >= place_in(places, i + 1) {
-        return Spot::Nothing;
+    let size = records::route_size(book.first() == Some(&0x51));
+    let at = wide(start) + size + 9 * j;
+    if at >= wide(next) {
+        return None;
     }
-    let found = record_at(book, at);
-    let Record::Corner { x, y } = found else {
-        return Spot::Nothing;
+    let Record::Corner { x, y } = record_at(book, at) else {
+        return None;
     };
-    Spot::Found {
+    Some(Spot {
         x: job::signed_of(x),
         y: job::signed_of(y),
-    }
+    })
 }
 
 // ---- by reading the book anew
 
 // The figures of a book.
-pub fn figures_of(book: &[u8]) -> Figures
+pub fn figures_of(book: &[u8]) -> Option<Head>
     ensures { result ≡ figures_of (parse_plan book.now) }
 {
-    let reading = read(book);
-    let answer = reading.answer;
-    let head = reading.head;
-    match answer {
-        Answer::Accepted => Figures::Found(head),
-        Answer::Refused(_) => Figures::Nothing,
-    }
+    let Ok(reading) = read(book) else {
+        return None;
+    };
+    Some(reading.head)
 }
 
 // Route i of a book.
-pub fn route_of(book: &[u8], i: usize) -> Route
+pub fn route_of(book: &[u8], i: usize) -> Option<Route>
     ensures { result ≡ route_of (parse_plan book.now) i }
 {
-    let reading = read(book);
-    let places = reading.places;
-    route_in(book, &places, i)
+    let Ok(reading) = read(book) else {
+        return None;
+    };
+    route_in(book, &reading.places, i)
 }
 
 // Corner j of route i of a book.
-pub fn corner_of(book: &[u8], i: usize, j: usize) -> Spot
+pub fn corner_of(book: &[u8], i: usize, j: usize) -> Option<Spot>
     ensures { result ≡ corner_of (parse_plan book.now) i j }
 {
-    let reading = read(book);
-    let places = reading.places;
-    corner_in(book, &places, i, j)
+    let Ok(reading) = read(book) else {
+        return None;
+    };
+    corner_in(book, &reading.places, i, j)
 }

@@ -1,47 +1,37 @@
 // The corners of a route, taken one behind the other.
-ghost use Rattle.std.specs.Prelude.{◌≤◌, length};
-ghost use Rattle.book.specs.Shape.{Runs};
+ghost use Rattle.std.specs.Prelude.{◌≤◌, length, MatchResult};
+ghost use Rattle.book.specs.Shape.{Runs, Breaks};
 
-use crate::{Run, Step, Stop, Walk};
+use crate::steps::step_at;
+use crate::{Run, Step, Walk};
+use refusal::Refusal;
 
 // Takes the corners from a place on, up to the record that is none, or is refused.
-pub fn run_from(book: &[u8], at: usize, w: Walk) -> Run
+pub fn run_from(book: &[u8], at: usize, w: Walk) -> Result<Run, Refusal>
     requires { at ≤ length book.now }
-    ensures { Runs book.now at w result }
+    ensures { MatchResult result (Runs book.now at w) (Breaks book.now at w) }
 {
     let mut to = at;
     let mut walk = w;
     loop {
-        match crate::steps::step_at(book, to, walk) {
+        match step_at(book, to, walk)? {
             Step::Corner(c) => {
-                walk = crate::steps::pass(walk, c);
-                to = to + 9;
+                walk = walk.pass(c);
+                to += 9;
             }
-            Step::Route {
-                number,
-                meets,
-                corners,
-                centre,
-            } => {
-                return Run {
+            Step::Route(_) => {
+                return Ok(Run {
                     at: to,
                     walk,
-                    stop: Stop::Route,
-                };
+                    end: None,
+                });
             }
             Step::End(total) => {
-                return Run {
+                return Ok(Run {
                     at: to,
                     walk,
-                    stop: Stop::End(total),
-                };
-            }
-            Step::Refuse(refusal) => {
-                return Run {
-                    at: to,
-                    walk,
-                    stop: Stop::Refuse(refusal),
-                };
+                    end: Some(total),
+                });
             }
         }
     }

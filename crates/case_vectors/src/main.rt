@@ -20,20 +20,12 @@ fn is_box(b: Box) -> bool {
     (b.left <= b.right) & (b.low <= b.high)
 }
 
-fn print_case(screen: &mut Screen, case: Case) {
+fn sign_of(case: Case) -> u8 {
     match case {
-        Case::Apart => {
-            screen.put(b".");
-        }
-        Case::OnePoint => {
-            screen.put(b"o");
-        }
-        Case::LinePiece => {
-            screen.put(b"-");
-        }
-        Case::Area => {
-            screen.put(b"#");
-        }
+        Case::Apart => b'.',
+        Case::OnePoint => b'o',
+        Case::LinePiece => b'-',
+        Case::Area => b'#',
     }
 }
 
@@ -41,7 +33,7 @@ fn print_case(screen: &mut Screen, case: Case) {
 fn print_pair(screen: &mut Screen, a: Box, digits: u32) {
     let b = box_of(digits);
     if is_box(b) {
-        print_case(screen, intersection::case_of(a, b));
+        screen.put(&[sign_of(intersection::case_of(a, b))]);
     }
 }
 

@@ -3,6 +3,7 @@ use mathlib.Core.Path.{◌≡◌, sym, ap, ap₂, ◌∙◌}
 use mathlib.Core.Bool.{true, false}
 use mathlib.Core.List.{List}
 use Prim.Native.Nat.{ℕ, ◌≤◌, ◌<◌}
+use Rattle.std.specs.Prelude.{Result, Ok, Err}
 use borrow.Author.Tests.{le-leb, lt-leb}
 use Rattle.refusal.specs.declared.Refusal.{Refusal}
 use Rattle.refusal.specs.declared.Refusal.TheVariants.{NoStar}
@@ -11,36 +12,34 @@ use Rattle.job.specs.Parse.{accepted, refused, parse}
 use Rattle.book.specs.Parse.{parse_plan}
 use Rattle.planner.specs.Call.{runs_of}
 use Rattle.planner.specs.Verdict.{are_stars, judged}
-use Rattle.judge.specs.declared.Judgement.{Judgement}
-use Rattle.judge.specs.declared.Judgement.TheVariants as is
 use Rattle.judge.specs.Judged.{judgement_of}
-use Rattle.choice.specs.declared.Choice.TheVariants.{First, Second, Refused}
+use Rattle.choice.specs.declared.Chosen.TheVariants.{First, Second}
 use Rattle.choice.specs.Choice.{lesser, choice_for, choice_of}
 
 -- ---- the books of a job
 
 module _ (number : ℕ) (runs : List Read) (first second : List ℕ) where
-  abbrev a : Judgement
+  abbrev a : Result ℕ Refusal
   a = judgement_of number runs 1 (parse_plan first)
 
-  abbrev b : Judgement
+  abbrev b : Result ℕ Refusal
   b = judgement_of number runs 2 (parse_plan second)
 
-  pub first_refused : (x : Refusal) → a ≡ is.Refused x → Refused x ≡ choice_for (accepted number runs) first second
+  pub first_refused : (x : Refusal) → a ≡ Err x → Err x ≡ choice_for (accepted number runs) first second
   unfolding choice_for lesser
   first_refused x e = sym (ap (λ j. lesser j b) e)
 
-  module _ (t : ℕ) (p : a ≡ is.Passed t) where
-    pub second_refused : (x : Refusal) → b ≡ is.Refused x → Refused x ≡ choice_for (accepted number runs) first second
+  module _ (t : ℕ) (p : a ≡ Ok t) where
+    pub second_refused : (x : Refusal) → b ≡ Err x → Err x ≡ choice_for (accepted number runs) first second
     unfolding choice_for lesser
     second_refused x e = sym (ap₂ lesser p e)
 
-    module _ (u : ℕ) (q : b ≡ is.Passed u) where
-      pub first_chosen : t ≤ u → First ≡ choice_for (accepted number runs) first second
+    module _ (u : ℕ) (q : b ≡ Ok u) where
+      pub first_chosen : t ≤ u → Ok First ≡ choice_for (accepted number runs) first second
       unfolding choice_for lesser
       first_chosen h = sym (ap₂ lesser p q ∙ simp (le-leb t u h))
 
-      pub second_chosen : u < t → Second ≡ choice_for (accepted number runs) first second
+      pub second_chosen : u < t → Ok Second ≡ choice_for (accepted number runs) first second
       unfolding choice_for lesser
       second_chosen h = sym (ap₂ lesser p q ∙ simp (lt-leb t u h))
 
@@ -52,7 +51,7 @@ unfolding judged
 stars_chosen number runs first second e = rw e
 
 pub no_star_chosen : (number : ℕ) (runs : List Read) (first second : List ℕ) → are_stars (runs_of runs) ≡ false
-    → Refused NoStar ≡ choice_for (judged (accepted number runs)) first second
+    → Err NoStar ≡ choice_for (judged (accepted number runs)) first second
 unfolding judged choice_for
 no_star_chosen number runs first second e = rw e
 
@@ -61,6 +60,6 @@ pub job_accepted : (job first second : List ℕ) (number : ℕ) (runs : List Rea
 unfolding choice_of
 job_accepted job first second number runs e = rw e
 
-pub job_refused : (job first second : List ℕ) (x : Refusal) → parse job ≡ refused x → Refused x ≡ choice_of job first second
+pub job_refused : (job first second : List ℕ) (x : Refusal) → parse job ≡ refused x → Err x ≡ choice_of job first second
 unfolding choice_of choice_for judged
 job_refused job first second x e = rw e

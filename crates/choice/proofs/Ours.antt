@@ -4,6 +4,7 @@ use mathlib.Core.Path.{◌≡◌, refl, sym, ap, ◌∙◌, subst}
 use mathlib.Core.Bool.{Bool, true, false, cond, ◌&&◌, false≢true}
 use mathlib.Core.List.{List, map}
 use Prim.Native.Nat.{ℕ, ◌≤◌}
+use Rattle.std.specs.Prelude.{Result, Ok, Err}
 use native.Mathlib.Omega.{arith}
 use borrow.Author.Tests.{le-leb}
 use lib.Dec.{leb}
@@ -31,12 +32,11 @@ use Rattle.planner.specs.Figures.{plan_head, plan_entries}
 use Rattle.planner.proofs.Verdicts.{no_plan, lent_enough}
 use Rattle.planner.proofs.Stars.{job_star}
 use Rattle.planner.proofs.Stored.{plan_read}
-use Rattle.judge.specs.declared.Judgement.{Judgement}
-use Rattle.judge.specs.declared.Judgement.TheVariants as is
 use Rattle.judge.specs.True.{drawn_in, True}
 use Rattle.judge.specs.Judged.{is_of, is_true, judgement_of}
 use Rattle.judge.proofs.TrueIff.{true_iff}
-use Rattle.choice.specs.declared.Choice.TheVariants.{First, Second, Refused}
+use Rattle.choice.specs.declared.Chosen.{Chosen}
+use Rattle.choice.specs.declared.Chosen.TheVariants.{First, Second}
 use Rattle.choice.specs.Choice.{lesser, choice_for, choice_of}
 use Rattle.choice.specs.Ours.{Ours, TrueBook, Stays}
 
@@ -44,7 +44,7 @@ use Rattle.choice.specs.Ours.{Ours, TrueBook, Stays}
 
 module _ (number : ℕ) (runs : List Read) (place : ℕ) (book : List ℕ) where
   -- a true book passes, with its trench figure
-  pub true_passes : (t : TrueBook number runs book) → judgement_of number runs place (parse_plan book) ≡ is.Passed t.head.trench
+  pub true_passes : (t : TrueBook number runs book) → judgement_of number runs place (parse_plan book) ≡ Ok t.head.trench
   unfolding judgement_of
   true_passes t =
       let h = t.head in
@@ -53,18 +53,18 @@ module _ (number : ℕ) (runs : List Read) (place : ℕ) (book : List ℕ) where
       ap (judgement_of number runs place) t.read ∙ simp (a, b)
 
   -- what passes is true
-  pub passed_true : (u : ℕ) → judgement_of number runs place (parse_plan book) ≡ is.Passed u → (t : TrueBook number runs book) × (t.head.trench ≡ u)
+  pub passed_true : (u : ℕ) → judgement_of number runs place (parse_plan book) ≡ Ok u → (t : TrueBook number runs book) × (t.head.trench ≡ u)
   unfolding judgement_of
   passed_true u e = go (parse_plan book) refl e
     where
       both : (h : Head) (es : List Entry) (a b : Bool) → is_of number runs h es ≡ a → is_true runs h es ≡ b
-          → cond a (cond b (is.Passed h.trench) (is.Refused (Untrue place))) (is.Refused (OtherJob place)) ≡ is.Passed u
+          → cond a (cond b (Ok h.trench) (Err (Untrue place))) (Err (OtherJob place)) ≡ Ok u
           → (is_of number runs h es && is_true runs h es ≡ true) × (h.trench ≡ u)
       both h es true true p q k = (and_join (is_of number runs h es) (is_true runs h es) p q, cc)
       both h es true false p q k = absurd (let z : ◌≡◌ {A = ℕ} 0 1 = cc in omega arith)
       both h es false b p q k = absurd (let z : ◌≡◌ {A = ℕ} 0 1 = cc in omega arith)
 
-      go : (q : Reading) → parse_plan book ≡ q → judgement_of number runs place q ≡ is.Passed u → (t : TrueBook number runs book) × (t.head.trench ≡ u)
+      go : (q : Reading) → parse_plan book ≡ q → judgement_of number runs place q ≡ Ok u → (t : TrueBook number runs book) × (t.head.trench ≡ u)
       go (unread x) r k = absurd (let z : ◌≡◌ {A = ℕ} 0 1 = cc in omega arith)
       go (read_as h es) r k =
           let (t, q) = both h es (is_of number runs h es) (is_true runs h es) refl refl k in
@@ -95,28 +95,24 @@ trench_least number runs routes l h es t =
 module _ (job book : List ℕ) (number : ℕ) (runs : List Read) (e : judged (parse job) ≡ accepted number runs) (ours : TrueBook number runs book)
     (least : (h : Head) (es : List Entry) → True number runs h es → ours.head.trench ≤ h.trench) where
   -- the second book alone decides
-  second_decides : (second : List ℕ) → choice_of job book second ≡ lesser (is.Passed ours.head.trench) (judgement_of number runs 2 (parse_plan second))
+  second_decides : (second : List ℕ) → choice_of job book second ≡ lesser (Ok ours.head.trench) (judgement_of number runs 2 (parse_plan second))
   unfolding choice_of choice_for
   second_decides second =
       ap (λ v. choice_for v book second) e ∙ ap (λ j. lesser j (judgement_of number runs 2 (parse_plan second))) (true_passes number runs 1 book ours)
 
   -- a refusal is that of the second book
-  refused_second : (t : ℕ) (j : Judgement) (x : Refusal) → lesser (is.Passed t) j ≡ Refused x → j ≡ is.Refused x
+  refused_second : (t : ℕ) (j : Result ℕ Refusal) (x : Refusal) → lesser (Ok t) j ≡ Err x → j ≡ Err x
   unfolding lesser
-  refused_second t (is.Refused y) x k = let same : y ≡ x = cc in ap is.Refused same
-  refused_second t (is.Passed u) x k = absurd (go (leb t u) k)
-    where
-      go : (b : Bool) → cond b First Second ≡ Refused x → ⊥
-      go true k = let z : ◌≡◌ {A = ℕ} 0 1 = cc in omega arith
-      go false k = let z : ◌≡◌ {A = ℕ} 0 1 = cc in omega arith
+  refused_second t (Err y) x k = let same : y ≡ x = cc in ap Err same
+  refused_second t (Ok u) x k = absurd (let z : ◌≡◌ {A = ℕ} 0 1 = cc in omega arith)
 
   -- with no less trench than the first, the second is not handed back
-  not_second : (t : ℕ) (j : Judgement) → ((u : ℕ) → j ≡ is.Passed u → t ≤ u) → lesser (is.Passed t) j ≡ Second → ⊥
+  not_second : (t : ℕ) (j : Result ℕ Refusal) → ((u : ℕ) → j ≡ Ok u → t ≤ u) → lesser (Ok t) j ≡ Ok Second → ⊥
   unfolding lesser
-  not_second t (is.Refused y) h k = let z : ◌≡◌ {A = ℕ} 0 1 = cc in omega arith
-  not_second t (is.Passed u) h k = go (leb t u) (le-leb t u (h u refl)) k
+  not_second t (Err y) h k = let z : ◌≡◌ {A = ℕ} 0 1 = cc in omega arith
+  not_second t (Ok u) h k = go (leb t u) (le-leb t u (h u refl)) k
     where
-      go : (b : Bool) → b ≡ true → cond b First Second ≡ Second → ⊥
+      go : (b : Bool) → b ≡ true → ◌≡◌ {A = Result Chosen Refusal} (Ok (cond b First Second)) (Ok Second) → ⊥
       go true p k = let z : ◌≡◌ {A = ℕ} 0 1 = cc in omega arith
       go false p k = false≢true p
 
@@ -136,7 +132,7 @@ module _ (job book : List ℕ) (number : ℕ) (runs : List Read) (e : judged (pa
             (sym (second_decides second) ∙ k);
         kept =
             λ second t.
-            second_decides second ∙ ap (lesser (is.Passed ours.head.trench)) (true_passes number runs 2 second t)
+            second_decides second ∙ ap (lesser (Ok ours.head.trench)) (true_passes number runs 2 second t)
             ∙ simp (le-leb ours.head.trench t.head.trench (least t.head t.entries t.holds));
         less_untrue = λ second t k. omega (arith, least t.head t.entries t.holds);
       }

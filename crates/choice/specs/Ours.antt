@@ -1,6 +1,6 @@
 -- Our plan beside a contractor's: "Every plan that our planner now writes passes this test for its job" (02, C-17). And since ours is least, no true book has less
 -- trench.
-use Rattle.std.specs.Prelude.{◌≡◌, List, ℕ, ◌<◌, length, take}
+use Rattle.std.specs.Prelude.{◌≡◌, List, ℕ, ◌<◌, length, take, Ok, Err}
 use Rattle.refusal.specs.declared.Refusal.{Refusal}
 use Rattle.job.specs.declared.Run.{Run as Read}
 use Rattle.job.specs.Parse.{accepted, parse}
@@ -10,10 +10,9 @@ use Rattle.book.specs.Parse.{accepted as read_as, parse_plan}
 use Rattle.planner.specs.Call.{gives}
 use Rattle.planner.specs.Verdict.{judged, verdict}
 use Rattle.planner.specs.Outcome.{Outcome}
-use Rattle.judge.specs.declared.Judgement.TheVariants as is
 use Rattle.judge.specs.True.{True}
 use Rattle.judge.specs.Judged.{judgement_of}
-use Rattle.choice.specs.declared.Choice.TheVariants.{First, Second, Refused}
+use Rattle.choice.specs.declared.Chosen.TheVariants.{First, Second}
 use Rattle.choice.specs.Choice.{choice_of}
 
 -- the book is a plan that our planner wrote for the job: what some call answered, in the first bytes of the buffer that it left
@@ -40,9 +39,9 @@ pub record Stays (job book : List ℕ) : Type 0 where
   -- it is true
   pub is_true : TrueBook number runs book
   -- the call is refused because of the second book alone, ..
-  pub never_refused : (second : List ℕ) (x : Refusal) → choice_of job book second ≡ Refused x → judgement_of number runs 2 (parse_plan second) ≡ is.Refused x
+  pub never_refused : (second : List ℕ) (x : Refusal) → choice_of job book second ≡ Err x → judgement_of number runs 2 (parse_plan second) ≡ Err x
   -- .. never hands the second back, and hands ours back whatever true book comes second;
-  pub never_second : (second : List ℕ) → choice_of job book second ≡ Second → ⊥
-  pub kept : (second : List ℕ) → TrueBook number runs second → choice_of job book second ≡ First
+  pub never_second : (second : List ℕ) → choice_of job book second ≡ Ok Second → ⊥
+  pub kept : (second : List ℕ) → TrueBook number runs second → choice_of job book second ≡ Ok First
   -- so a book with less trench than ours is never true
   pub less_untrue : (second : List ℕ) (t : TrueBook number runs second) → t.head.trench < is_true.head.trench → ⊥

@@ -6,6 +6,7 @@ use mathlib.Core.List.{List, [], ◌∷◌}
 use Prim.Native.Nat.{ℕ, ◌≤◌, ◌<◌, ◌^◌}
 use native.Mathlib.Omega.{arith}
 use lib.Dec.{leb}
+use Rattle.std.specs.Prelude.{Result, Ok, Err}
 use lib.ListN.{length, take}
 use Rattle.network.specs.Lists.{All}
 use Rattle.refusal.specs.declared.Refusal.{Refusal}
@@ -41,12 +42,9 @@ use Rattle.book.specs.Parse.{Parsed, accepted, refused, parse_plan}
 use Rattle.book.proofs.Written.{accepted_bytes, accepted_right}
 use Rattle.book.proofs.Prefix.{parse_prefix}
 use Rattle.planner.specs.Verdict.{judged}
-use Rattle.judge.specs.declared.Judgement.{Judgement}
-use Rattle.judge.specs.declared.Judgement.TheVariants as is
 use Rattle.judge.specs.Judged.{is_of, is_true, of_book, judgement_of}
-use Rattle.choice.specs.declared.Choice.{Choice}
-use Rattle.choice.specs.declared.Choice.TheVariants.{First, Second, Refused}
-use Rattle.choice.specs.Choice.{lesser, choice_for, choice_of}
+use Rattle.choice.specs.declared.Chosen.TheVariants.{First, Second}
+use Rattle.choice.specs.Choice.{Choice, lesser, choice_for, choice_of}
 use Rattle.report.proofs.Reported.{judged_place}
 use Rattle.text.specs.Listed.{Listed}
 use Rattle.text.proofs.Listed.{listed_whole}
@@ -108,15 +106,15 @@ book_place place (Untrue at) = omega arith
 book_place place (Coincident at) = omega arith
 
 -- a book that passes is no longer than any plan, and one that is refused is so at most at its place
-abbrev JudgedIn : (place : ℕ) → List ℕ → Judgement → Type 0
-JudgedIn place book (is.Passed t) = length book ≤ 36886
-JudgedIn place book (is.Refused x) = refusal_place x ≤ place
+abbrev JudgedIn : (place : ℕ) → List ℕ → Result ℕ Refusal → Type 0
+JudgedIn place book (Ok t) = length book ≤ 36886
+JudgedIn place book (Err x) = refusal_place x ≤ place
 
 judged_in : (number : ℕ) (runs : List Read) (place : ℕ) (book : List ℕ) → Bytes book → JudgedIn place book (judgement_of number runs place (parse_plan book))
 unfolding judgement_of
 judged_in number runs place book b = go (parse_plan book) refl
   where
-    by_tests : (t : ℕ) (x y : Bool) → length book ≤ 36886 → JudgedIn place book (cond x (cond y (is.Passed t) (is.Refused (Untrue place))) (is.Refused (OtherJob place)))
+    by_tests : (t : ℕ) (x y : Bool) → length book ≤ 36886 → JudgedIn place book (cond x (cond y (Ok t) (Err (Untrue place))) (Err (OtherJob place)))
     by_tests t true true h = h
     by_tests t true false h = omega arith
     by_tests t false y h = omega arith
@@ -127,17 +125,17 @@ judged_in number runs place book b = go (parse_plan book) refl
 
 -- A book that is chosen has at most 36,886 bytes, and a choice that is refused is so at most at 640.
 abbrev pub ChoiceIn : (first second : List ℕ) → Choice → Type 0
-ChoiceIn first second First = length first ≤ 36886
-ChoiceIn first second Second = length second ≤ 36886
-ChoiceIn first second (Refused x) = refusal_place x ≤ 640
+ChoiceIn first second (Ok First) = length first ≤ 36886
+ChoiceIn first second (Ok Second) = length second ≤ 36886
+ChoiceIn first second (Err x) = refusal_place x ≤ 640
 
-lesser_in : (first second : List ℕ) (a b : Judgement) → JudgedIn 1 first a → JudgedIn 2 second b → ChoiceIn first second (lesser a b)
+lesser_in : (first second : List ℕ) (a b : Result ℕ Refusal) → JudgedIn 1 first a → JudgedIn 2 second b → ChoiceIn first second (lesser a b)
 unfolding lesser
-lesser_in first second (is.Refused x) b i j = omega arith
-lesser_in first second (is.Passed t) (is.Refused x) i j = omega arith
-lesser_in first second (is.Passed t) (is.Passed u) i j = go (leb t u)
+lesser_in first second (Err x) b i j = omega arith
+lesser_in first second (Ok t) (Err x) i j = omega arith
+lesser_in first second (Ok t) (Ok u) i j = go (leb t u)
   where
-    go : (c : Bool) → ChoiceIn first second (cond c First Second)
+    go : (c : Bool) → ChoiceIn first second (Ok (cond c First Second))
     go true = i
     go false = j
 
@@ -153,9 +151,9 @@ choice_in job first second f s = go (judged (parse job)) refl
 
 -- so no text is longer than 72 bytes
 text_most : (first second : List ℕ) (c : Choice) (a b : ℕ) → ChoiceIn first second c → a < 2 ^ 32 → b < 2 ^ 32 → length (choice_text c a b) ≤ 72
-text_most first second First a b i h k = chosen_length false a b h k
-text_most first second Second a b i h k = chosen_length true b a k h
-text_most first second (Refused x) a b i h k = omega (arith, refusal_length x (omega arith))
+text_most first second (Ok First) a b i h k = chosen_length false a b h k
+text_most first second (Ok Second) a b i h k = chosen_length true b a k h
+text_most first second (Err x) a b i h k = omega (arith, refusal_length x (omega arith))
 
 -- A text buffer of 72 bytes has room for every text.
 pub choice_whole : (job first second text text' : List ℕ) (n : ℕ) → Bytes first → Bytes second → 72 ≤ length text

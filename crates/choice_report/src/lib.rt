@@ -7,18 +7,13 @@ ghost use Rattle.choice.specs.Choice.{choice_of};
 ghost use Rattle.text.specs.Listed.{Listed};
 ghost use Rattle.choice_report.specs.ChoiceText.{trench_of, choice_text};
 
-use book::Figures;
-use choice::Choice;
+use choice::Chosen;
 
 // The trench figure of a book, 0 where the book is refused.
 fn trench_of(book: &[u8]) -> u32
     ensures { result ≡ trench_of (parse_plan book.now) }
 {
-    let found = book::figures_of(book);
-    let Figures::Found(head) = found else {
-        return 0;
-    };
-    head.trench
+    book::figures_of(book).map_or(0, |head| head.trench)
 }
 
 // The text of the choice between two plan books of a job, or of its refusal, as much of it as there is room for, and how many bytes that is.
@@ -28,10 +23,9 @@ pub fn list_choice(job: &[u8], first: &[u8], second: &[u8], text: &mut [u8]) -> 
         text.old text.new result }
     ensures within { (result ≤ length text.new) × (result ≡ length (take result text.new)) }
 {
-    let choice = choice::which(job, first, second);
-    match choice {
-        Choice::First => text::list_chosen(false, trench_of(first), trench_of(second), text),
-        Choice::Second => text::list_chosen(true, trench_of(second), trench_of(first), text),
-        Choice::Refused(refusal) => text::list_refusal(refusal, text),
+    match choice::which(job, first, second) {
+        Ok(Chosen::First) => text::list_chosen(false, trench_of(first), trench_of(second), text),
+        Ok(Chosen::Second) => text::list_chosen(true, trench_of(second), trench_of(first), text),
+        Err(refusal) => text::list_refusal(refusal, text),
     }
 }

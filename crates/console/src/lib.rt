@@ -1,30 +1,15 @@
 // What the programs read and write: standard input and output, files by name, and arguments.
 #![tactic(auto)]
 
-ghost use Rattle.std.specs.Prelude.{◌≡◌, ℕ, ◌/◌, ◌%◌, ◌<◌, ◌≤◌, List, [], ◌∷◌, ◌++◌, length, take, IfOk, IsOk, IsErr};
-ghost use Rattle.std.specs.Fmt.{decimal};
+ghost use Rattle.std.specs.Prelude.{◌≡◌, false, ℕ, ◌/◌, ◌%◌, ◌<◌, ◌≤◌, List, [], ◌∷◌, ◌++◌, length, take, IfOk, IsOk, IsErr};
+ghost use Rattle.std.specs.Fmt.{decimal, digit_glyph};
 ghost use Rattle.std.specs.Io.{ReadsAtMost};
-ghost use Rattle.console.specs.Digits.{digit_letter};
 ghost use Rattle.std.specs.Io.KnownBytes.{Appends, Consumes, IsAtEnd};
 
 use std::env::Env;
 use std::io::{Read, Stdout, Write};
 use std::rt::Files;
 use std::{env, fs, io};
-
-// 4,096 zeros.
-pub fn buffer() -> [u8; 4096]
-    ensures { 4096 ≡ length result }
-{
-    [0; 4096]
-}
-
-// 65,536 zeros.
-pub fn large_buffer() -> [u8; 65536]
-    ensures { 65536 ≡ length result }
-{
-    [0; 65536]
-}
 
 // Reads until the slice is full or the input ends, and says how many bytes it put at the slice's start. A short read goes on. A read that fails ends it with
 // its error, also where bytes came before.
@@ -85,13 +70,24 @@ impl<W: Write> Output<W> {
         }
     }
 
+    // Writes a space and a number in decimal digits.
+    pub fn put_number(&mut self, n: u64)
+        ensures written { IsOk self.new.outcome → Appends (W.contents self.old.to) (W.contents self.new.to) (32 ∷ decimal n) }
+        ensures ended { IsErr self.old.outcome → self.new ≡ self.old }
+    {
+        self.put(b" ");
+        self.put_decimal(n);
+    }
+
     // Writes a byte in two hexadecimal digits.
     pub fn put_byte(&mut self, b: u8)
         ensures written { IsOk self.new.outcome
-            → Appends (W.contents self.old.to) (W.contents self.new.to) (digit_letter (b / 16) ∷ digit_letter (b % 16) ∷ []) }
+            → Appends (W.contents self.old.to) (W.contents self.new.to) (digit_glyph false (b / 16) ∷ digit_glyph false (b % 16) ∷ []) }
         ensures ended { IsErr self.old.outcome → self.new ≡ self.old }
     {
-        self.put(&[digit(b / 16), digit(b % 16)]);
+        if self.outcome.is_ok() {
+            self.outcome = write!(self.to, "{b:02x}");
+        }
     }
 
     // Writes a line that says what failed and why: a colon, and the error's text, less its number.
@@ -136,14 +132,6 @@ fn text_of(error: io::Error, room: &mut [u8]) -> usize
     let mut rest: &mut [u8] = room;
     let _ = write!(rest, "{error}");
     size.saturating_sub(rest.len())
-}
-
-// A digit below 16.
-fn digit(d: u8) -> u8
-    requires { d < 16 }
-    ensures { result ≡ digit_letter d }
-{
-    if d < 10 { 48 + d } else { 87 + d }
 }
 
 // How many arguments the program was started with, its own name among them, counted up to so many.

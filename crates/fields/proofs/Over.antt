@@ -1,11 +1,11 @@
--- Bytes over the front of a list and behind what was written before: stores one after the other, the rest of a slice that is lent to a writer, and
+-- Bytes over the front of a list and behind what was written before: bytes stored in their place, the rest of a slice that is lent to a writer, and
 -- one writer behind another.
 use mathlib.Core.Path.{◌≡◌, refl, sym, ap, ◌∙◌}
 use mathlib.Core.List.{List, [], ◌++◌, append_assoc, append-nil}
 use Prim.Native.Nat.{ℕ, ◌+◌, ◌-◌, ◌≤◌}
 use native.Mathlib.Omega.{arith}
 use lib.ListN.{length, take, drop, take-append-drop, length-append, length-take, length-drop, drop_of_length-le}
-use lib.Seq.{sets, sets-eq, take-append_seam, drop-append_seam, take-append-add, drop-append-add, drop-drop, take_all, length-take-le}
+use lib.Seq.{take-append_seam, drop-append_seam, take-append-add, drop-append-add, drop-drop, take_all, length-take-le}
 use borrow.Rule.Slice.PartMut.{mid_of, post_of, put_mid}
 use Rattle.fields.specs.Bytes.{over, behind, Wrote}
 
@@ -14,10 +14,10 @@ pub behind_none : (bs xs : List ℕ) → behind 0 bs xs ≡ over bs xs
 unfolding behind
 behind_none bs xs = refl
 
--- stores one after the other from an index on
-pub stores_behind : (at : ℕ) (bs xs : List ℕ) → at + length bs ≤ length xs → sets xs at bs ≡ behind at bs xs
+-- bytes stored in their place
+pub stored_behind : (at n : ℕ) (bs xs zs : List ℕ) → zs ≡ bs → n ≡ length bs → put_mid at n xs zs ≡ behind at bs xs
 unfolding over behind
-stores_behind at bs xs h = sets-eq bs xs at h ∙ rw (drop-drop (length bs) at xs) (append_assoc (take at xs) bs (drop (at + length bs) xs))
+stored_behind at n bs xs zs e h = rw (e, h) refl
 
 -- `&mut ys[at..]`, lent to a writer that left zs there
 pub lent_behind : (at : ℕ) (bs ys zs : List ℕ) → zs ≡ over bs (mid_of at (length ys - at) ys) → put_mid at (length ys - at) ys zs ≡ behind at bs ys

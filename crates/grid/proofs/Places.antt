@@ -1,6 +1,6 @@
 -- The position of a line among rising lines is the number of lines below it; the edges between neighbouring lines have a length.
 use mathlib.Core.Path.{◌≡◌, refl, sym, ap, ap₂, ◌∙◌, subst}
-use mathlib.Core.Bool.{Bool, cond}
+use mathlib.Core.Bool.{Bool, true, false, cond}
 use mathlib.Core.Logic.{◌⊎◌, inl, inr}
 use mathlib.Core.List.{List}
 use Prim.Native.Nat.{ℕ, zero, suc, pred, ◌+◌, ◌-◌, ◌≤◌, ◌<◌}
@@ -8,7 +8,9 @@ use native.Mathlib.Nat.{le_refl}
 use native.Mathlib.Numerals.{add-one}
 use native.Mathlib.Omega.{arith}
 use lib.Dec.{ltb}
-use lib.ListN.{length, get_or}
+use lib.ListN.{length, get_or, take}
+use lib.Seq.{get_or-take}
+use mir.Val.{bool_byte}
 use borrow.Author.Tests.{lt-ltb, le-ltb}
 use Rattle.network.specs.Lists.{count}
 use Rattle.network.specs.Grid.{Grid, Rising, len, across_at, upward_at}
@@ -37,22 +39,43 @@ pub index_none : (l : List ℕ) (v : ℕ) → index_of l 0 v ≡ 0
 unfolding index_of
 index_none l v = refl
 
--- the next line is below v
-pub index_more : (l : List ℕ) (n v : ℕ) → get_or l n 0 < v → index_of l (n + 1) v ≡ index_of l n v + 1
+-- the next line counts where it is below v
+index_step : (l : List ℕ) (n v : ℕ) → index_of l (n + 1) v ≡ index_of l n v + cond (ltb (get_or l n 0) v) 1 0
 unfolding index_of
-index_more l n v h =
-    ap (λ k. index_of l k v) (add-one n) ∙ count_below (λ i. ltb (get_or l i 0) v) n ∙ ap (λ b. index_of l n v + cond b 1 0) (lt-ltb (get_or l n 0) v h)
+index_step l n v = ap (λ k. index_of l k v) (add-one n) ∙ count_below (λ i. ltb (get_or l i 0) v) n
+
+-- a byte that says whether something holds counts it
+pub byte_is : (t : Bool) → bool_byte t ≡ cond t 1 0
+byte_is true = refl
+byte_is false = refl
+
+-- and is no more than 1
+pub byte_le : (t : Bool) → bool_byte t ≤ 1
+byte_le true = le_refl 1
+byte_le false = omega arith
+
+-- a counter of such lines, which gains what a byte says of the next one
+pub index_counted : (l : List ℕ) (n v k b : ℕ) → k ≡ index_of l n v → b ≡ bool_byte (ltb (get_or l n 0) v) → k + b ≡ index_of l (n + 1) v
+index_counted l n v k b p q = ap₂ (λ (x y : ℕ). x + y) p (q ∙ byte_is (ltb (get_or l n 0) v)) ∙ sym (index_step l n v)
+
+-- the next line is below v
+index_more : (l : List ℕ) (n v : ℕ) → get_or l n 0 < v → index_of l (n + 1) v ≡ index_of l n v + 1
+index_more l n v h = index_step l n v ∙ ap (λ b. index_of l n v + cond b 1 0) (lt-ltb (get_or l n 0) v h)
 
 -- the next line is not below v
-pub index_still : (l : List ℕ) (n v : ℕ) → v ≤ get_or l n 0 → index_of l (n + 1) v ≡ index_of l n v
-unfolding index_of
-index_still l n v h =
-    ap (λ k. index_of l k v) (add-one n) ∙ count_below (λ i. ltb (get_or l i 0) v) n ∙ ap (λ b. index_of l n v + cond b 1 0) (le-ltb (get_or l n 0) v h) ∙ omega arith
+index_still : (l : List ℕ) (n v : ℕ) → v ≤ get_or l n 0 → index_of l (n + 1) v ≡ index_of l n v
+index_still l n v h = index_step l n v ∙ ap (λ b. index_of l n v + cond b 1 0) (le-ltb (get_or l n 0) v h) ∙ omega arith
 
 -- no more lines are below v than there are
 pub index_le : (l : List ℕ) (n v : ℕ) → index_of l n v ≤ n
 unfolding index_of
 index_le l n v = count_le (λ i. ltb (get_or l i 0) v) n
+
+-- so many of the first n lines are below v: all were passed, one after the other
+pub index_passed : (l : List ℕ) (n i v k : ℕ) → i ≡ n → k ≡ index_of (take n l) i v → k ≡ index_of l n v
+unfolding index_of
+index_passed l n i v k e p =
+    p ∙ ap (λ (m : ℕ). index_of (take n l) m v) e ∙ count_same _ _ n (λ j h. ap (λ (x : ℕ). ltb x v) (get_or-take n l j 0 h))
 
 -- ---- what it means
 

@@ -1,37 +1,25 @@
--- Insertion into an array: the lines from the value's place on go one place further, the last one first or the first one first.
-use mathlib.Core.Path.{◌≡◌, refl, sym, ap, ap₂, ◌∙◌, subst}
-use mathlib.Core.List.{List, [], ◌∷◌, ◌++◌, append_assoc}
-use Prim.Native.Nat.{ℕ, zero, suc, ◌+◌, ◌-◌, ◌≤◌, ◌<◌}
+-- Insertion into an array: the lines from the value's place on go one place further.
+use mathlib.Core.Path.{◌≡◌, sym, ap, ap₂, ◌∙◌, subst}
+use mathlib.Core.List.{List, [], ◌∷◌, ◌++◌, append_assoc, append-nil}
+use Prim.Native.Nat.{ℕ, suc, ◌+◌, ◌-◌, ◌≤◌, ◌<◌}
 use native.Mathlib.Nat.{le_refl, lt_of_not-le}
 use native.Mathlib.Numerals.{add-one}
 use native.Mathlib.Omega.{arith}
-use lib.ListN.{length, get_or, take, drop, set, replicate, length-append, length-take, length-drop, length-set, get_or-append}
-use lib.Seq.{
-  length-take-le,
-  take-suc,
-  drop-cons,
-  append_snoc,
-  take_at,
-  drop_at,
-  take-append-le,
-  drop-append-le,
-  set_at,
-  set-set,
-  set-append_left,
-  get_or-set_other,
-  get_or-take,
-}
+use lib.ListN.{length, get_or, get_or-append, take, drop, set, replicate, length-append, length-take, length-drop}
+use lib.Seq.{length-take-le, take-suc, take-length, drop-length, drop-cons, append_snoc, get_or_at, take-append_seam, take-append-le, drop-append_seam, drop-append-le, drop-append-add, set_at, get_or-take, get_or-set_other, set-set}
 use Rattle.network.specs.Distinct.{insert}
 use Rattle.grid.specs.declared.Axis.{Axis}
 use Rattle.grid.specs.Tables.{padded}
 use Rattle.grid.specs.Lines.{axis_of, lines_of, index_of, put, Room}
-use Rattle.grid.proofs.Tables.{length_padded, get_or_padded}
+use Rattle.grid.proofs.Tables.{length_padded}
 use Rattle.grid.proofs.Insert.{insert_there, insert_put}
 use Rattle.grid.proofs.Places.{Parts, index_le, index_padded, index_parts}
 
 -- one place is gained
 length_put : (i v : ℕ) (m : List ℕ) → i ≤ length m → length (put i v m) ≡ suc (length m)
 length_put i v m h = length-append (take i m) (v ∷ drop i m) ∙ omega (arith, length-take i m, length-drop i m)
+
+-- ---- one place further, the last one first
 
 -- a store of v at place i of the array t makes the list m with v at place i
 pub record Shifted (m : List ℕ) (v : ℕ) (t : List ℕ) (i : ℕ) : Type 0 where
@@ -65,69 +53,109 @@ shifted_on m v t i s h =
     let e : i ≡ suc (i - 1) = omega arith in
     subst (λ (j : ℕ). Shifted m v (set t j (get_or t (i - 1) 0)) (i - 1)) (sym e) (shifted_suc m v t (i - 1) (subst (Shifted m v t) e s))
 
+-- ---- one place further, the first one first
+
+-- v and the numbers s stand in the first i places of t, one place further, and x is the one that is next
+pub record Slipped (s : List ℕ) (v : ℕ) (t : List ℕ) (x i : ℕ) : Type 0 where
+  pub array : t ≡ take i (v ∷ s) ++ drop i s
+  pub next : x ≡ get_or (v ∷ s) i 0
+
+-- x takes the place of the number there, z, which is next
+pub slipped_on : (s : List ℕ) (v : ℕ) (t : List ℕ) (x i y z : ℕ) → Slipped s v t x i → i < length s → y ≡ x → z ≡ get_or t i 0 → Slipped s v (set t i y) z (i + 1)
+slipped_on s v t x i y z p h f g =
+    rw add-one
+    record {
+      array =
+          ap₂ (λ (k : List ℕ) (a : ℕ). set k i a) there (f ∙ p.next)
+          ∙ set_at (take i (v ∷ s)) (get_or s i 0) (drop (suc i) s) w i front
+          ∙ sym (append_snoc (take i (v ∷ s)) w (drop (suc i) s))
+          ∙ ap (λ (k : List ℕ). k ++ drop (suc i) s) (sym (take-suc (v ∷ s) i 0 (omega arith)));
+      next = g ∙ ap (λ (k : List ℕ). get_or k i 0) there ∙ get_or_at (take i (v ∷ s)) (get_or s i 0) (drop (suc i) s) 0 i front;
+    }
+  where
+    w : ℕ
+    w = get_or (v ∷ s) i 0
+
+    there : t ≡ take i (v ∷ s) ++ get_or s i 0 ∷ drop (suc i) s
+    there = p.array ∙ ap (λ (k : List ℕ). take i (v ∷ s) ++ k) (drop-cons s i 0 h)
+
+    front : length (take i (v ∷ s)) ≡ i
+    front = length-take-le i (v ∷ s) (omega arith)
+
+-- behind the last number, x is the last of them
+pub slipped_end : (s : List ℕ) (v : ℕ) (t : List ℕ) (x i : ℕ) → Slipped s v t x i → i ≡ length s → t ++ x ∷ [] ≡ v ∷ s
+slipped_end s v t x i p e =
+    let n = length s in
+    ap₂ (λ (k : List ℕ) (y : ℕ). k ++ y ∷ []) (p.array ∙ ap (λ (j : ℕ). take j (v ∷ s) ++ drop j s) e) (p.next ∙ ap (λ (j : ℕ). get_or (v ∷ s) j 0) e)
+    ∙ ap (λ (k : List ℕ). (take n (v ∷ s) ++ k) ++ get_or (v ∷ s) n 0 ∷ []) (drop-length s)
+    ∙ ap (λ (k : List ℕ). k ++ get_or (v ∷ s) n 0 ∷ []) (append-nil (take n (v ∷ s)))
+    ∙ sym (take-suc (v ∷ s) n 0 (le_refl (suc n)))
+    ∙ ap (λ (k : List ℕ). v ∷ k) (take-length s)
+
 -- ---- an array with room for one more line
 
-module _ (l : List ℕ) (v : ℕ) (h : length l < 64) where
-  -- a value behind all lines needs no shift
-  first_shifted : Shifted (padded 63 l) v (padded 64 l) (length l)
-  first_shifted =
-      let e : 64 - length l ≡ suc (63 - length l) = omega arith in
-      let z = replicate {A = ℕ} (63 - length l) 0 in
-      record {
-        within = omega (arith, length_padded 63 l (omega arith));
-        whole =
-            ap (λ (n : ℕ). set (l ++ replicate n 0) (length l) v) e
-            ∙ set_at l 0 z v (length l) refl
-            ∙ ap₂ (λ (x y : List ℕ). x ++ v ∷ y) (sym (take_at l z (length l) refl)) (sym (drop_at l z (length l) refl));
-      }
+module _ (l : List ℕ) (v k : ℕ) (room : length l < 64) (o : k ≤ length l) where
+  -- the words behind the lines, but for the first of them
+  abbrev behind : List ℕ
+  behind = replicate (63 - length l) 0
 
-  -- a value put among the lines is put among the array's words
-  put_padded : (k : ℕ) → k ≤ length l → put k v (padded 63 l) ≡ padded 64 (put k v l)
-  put_padded k o =
+  -- the array's words
+  words : padded 64 l ≡ l ++ 0 ∷ behind
+  words = let e : 64 - length l ≡ suc (63 - length l) = omega arith in ap (λ (n : ℕ). l ++ replicate n 0) e
+
+  -- those before place k
+  front : take k (padded 64 l) ≡ take k l
+  front = ap (take k) words ∙ take-append-le k l (0 ∷ behind) o
+
+  -- and those from there on
+  rest : drop k (padded 64 l) ≡ drop k l ++ 0 ∷ behind
+  rest = ap (drop k) words ∙ drop-append-le k l (0 ∷ behind) o
+
+  -- so many lines are moved
+  size : length l - k ≡ length (drop k l)
+  size = sym (length-drop k l)
+
+  -- the lines that are moved
+  lines : take (length l - k) (drop k (padded 64 l)) ≡ drop k l
+  lines = ap₂ (λ (n : ℕ) (x : List ℕ). take n x) size rest ∙ take-append_seam (drop k l) (0 ∷ behind)
+
+  -- with v in front of them, the array holds the lines with v at place k
+  held : take k l ++ ((v ∷ drop k l) ++ behind) ≡ padded 64 (put k v l)
+  held =
       let e : 63 - length l ≡ 64 - length (put k v l) = omega (arith, length_put k v l o) in
-      let z = replicate {A = ℕ} (63 - length l) 0 in
-      ap₂ (λ (x y : List ℕ). x ++ v ∷ y) (take-append-le k l z o) (drop-append-le k l z o)
-      ∙ sym (append_assoc (take k l) (v ∷ drop k l) z)
-      ∙ ap (λ (n : ℕ). put k v l ++ replicate n 0) e
+      sym (append_assoc (take k l) (v ∷ drop k l) behind) ∙ ap (λ (n : ℕ). put k v l ++ replicate n 0) e
 
--- ---- the first one first
+  -- where the lines slip one place, and the last one, r, is stored behind the others
+  slipped_put : (y : List ℕ) (r : ℕ) → y ++ r ∷ [] ≡ v ∷ take (length l - k) (drop k (padded 64 l))
+      → set (take k (padded 64 l) ++ (y ++ drop (length l - k) (drop k (padded 64 l)))) (length l) r ≡ padded 64 (put k v l)
+  slipped_put y r e =
+      ap₂ (λ (a b : List ℕ). set (a ++ (y ++ b)) (length l) r) front
+      (ap₂ (λ (n : ℕ) (x : List ℕ). drop n x) size rest ∙ drop-append_seam (drop k l) (0 ∷ behind))
+      ∙ ap (λ (a : List ℕ). set a (length l) r) (sym (append_assoc (take k l) y (0 ∷ behind)))
+      ∙ set_at (take k l ++ y) 0 behind r (length l) there
+      ∙ append_assoc (take k l) y (r ∷ behind)
+      ∙ ap (λ (a : List ℕ). take k l ++ a) (sym (append_snoc y r behind) ∙ ap (λ (a : List ℕ). a ++ behind) (e ∙ ap (λ (a : List ℕ). v ∷ a) lines))
+      ∙ held
+    where
+      as_long : length y + 1 ≡ suc (length (drop k l))
+      as_long = sym (length-append y (r ∷ [])) ∙ ap length (e ∙ ap (λ (a : List ℕ). v ∷ a) lines)
 
--- where x is stored at place i, and the number that was there put behind it, x is put before that number
-put_next : (l : List ℕ) (i x : ℕ) → i < length l → put (suc i) (get_or l i 0) (set l i x) ≡ put i x l
-put_next [] i x h = absurd (omega arith)
-put_next (a ∷ l) zero x h = refl
-put_next (a ∷ l) (suc i) x h = ap (λ (k : List ℕ). a ∷ k) (put_next l i x (omega arith))
+      there : length (take k l ++ y) ≡ length l
+      there = omega (arith, length-append (take k l) y, length-take-le k l o, length-drop k l, as_long)
 
--- the array t holds n numbers, which with x put at place i are the list m
-pub record Slipped (m t : List ℕ) (n x i : ℕ) : Type 0 where
-  pub rest : List ℕ
-  pub size : length rest ≡ n
-  pub array : t ≡ padded 64 rest
-  pub whole : put i x rest ≡ m
-
--- one place further: x takes the place of the number there, which is to be put behind it
-pub slipped_on : (m t : List ℕ) (n x i : ℕ) → Slipped m t n x i → i < n → Slipped m (set t i x) n (get_or t i 0) (i + 1)
-slipped_on m t n x i s h =
-    let l = s.rest in
-    let o : i < length l = omega (arith, s.size) in
-    record {
-      rest = set l i x;
-      size = length-set l i x ∙ s.size;
-      array =
-          ap (λ (k : List ℕ). set k i x) s.array ∙ set-append_left l (replicate (64 - length l) 0) i x o
-          ∙ ap (λ (j : ℕ). set l i x ++ replicate (64 - j) 0) (sym (length-set l i x));
-      whole =
-          ap₂ (λ (j y : ℕ). put j y (set l i x)) (add-one i) (ap (λ (k : List ℕ). get_or k i 0) s.array ∙ get_or_padded 64 l i o)
-          ∙ put_next l i x o ∙ s.whole;
-    }
-
--- behind the last number x is stored
-pub slipped_end : (m t : List ℕ) (n x : ℕ) → Slipped m t n x n → n < 64 → set t n x ≡ padded 64 m
-slipped_end m t n x s h =
-    let l = s.rest in
-    let o : length l < 64 = omega (arith, s.size) in
-    ap₂ (λ (k : List ℕ) (j : ℕ). set k j x) s.array (sym s.size) ∙ (first_shifted l x o).whole ∙ put_padded l x o (length l) (le_refl (length l))
-    ∙ ap (padded 64) (ap (λ (j : ℕ). put j x l) s.size ∙ s.whole)
+  -- where they are copied one place further, and v is stored at place k
+  copied_put : set (take (k + 1) (padded 64 l) ++ take (length l - k) (drop k (padded 64 l)) ++ drop (k + 1 + (length l - k)) (padded 64 l)) k v ≡ padded 64 (put k v l)
+  copied_put =
+      let e : k + 1 + (length l - k) ≡ length l + 1 = omega arith in
+      let f : k < length (padded 64 l) = omega (arith, length_padded 64 l (omega arith)) in
+      ap₂ (λ (a b : List ℕ). set (a ++ b ++ drop (k + 1 + (length l - k)) (padded 64 l)) k v)
+      (ap (λ (n : ℕ). take n (padded 64 l)) (add-one k) ∙ take-suc (padded 64 l) k 0 f ∙ ap (λ (a : List ℕ). a ++ get_or (padded 64 l) k 0 ∷ []) front) lines
+      ∙ ap (λ (a : List ℕ). set ((take k l ++ get_or (padded 64 l) k 0 ∷ []) ++ drop k l ++ a) k v)
+      (ap₂ (λ (n : ℕ) (x : List ℕ). drop n x) e words ∙ drop-append-add l (0 ∷ behind) 1)
+      ∙ ap (λ (a : List ℕ). set a k v)
+      (append_assoc (take k l ++ get_or (padded 64 l) k 0 ∷ []) (drop k l) behind ∙ append_snoc (take k l) (get_or (padded 64 l) k 0) (drop k l ++ behind))
+      ∙ set_at (take k l) (get_or (padded 64 l) k 0) (drop k l ++ behind) v k (length-take-le k l o)
+      ∙ held
 
 -- ---- an axis with room for one more
 
@@ -147,19 +175,19 @@ module _ (a : Axis) (v : ℕ) (h : Room a) where
   line_is : (i : ℕ) → i < a.count → get_or a.lines i 0 ≡ get_or (lines_of a) i 0
   line_is i k = sym (get_or-take a.count a.lines i 0 k)
 
-  -- at first nothing is shifted: the value would stand behind all lines
-  pub shifted_start : Shifted (padded 63 (lines_of a)) v a.lines a.count
-  shifted_start =
-      subst (λ (b : Axis). Shifted (padded 63 (lines_of a)) v b.lines b.count) (sym h.held)
-      (first_shifted (lines_of a) v (omega (arith, count_is, h.room)))
+  -- where its lines from place k on slip, the array holds the lines with v at place k
+  pub line_slipped : (k : ℕ) → k ≤ a.count → (y : List ℕ) (r : ℕ) → y ++ r ∷ [] ≡ v ∷ take (a.count - k) (drop k a.lines)
+      → set (take k a.lines ++ (y ++ drop (a.count - k) (drop k a.lines))) a.count r ≡ padded 64 (put k v (lines_of a))
+  line_slipped k o y r =
+      subst (λ (b : Axis). y ++ r ∷ [] ≡ v ∷ take (b.count - k) (drop k b.lines) → set (take k b.lines ++ (y ++ drop (b.count - k) (drop k b.lines))) b.count r ≡ padded 64 (put k v (lines_of a)))
+      (sym h.held) (slipped_put (lines_of a) v k (omega (arith, count_is, h.room)) (omega (arith, count_is)) y r)
 
-  -- or from the front: at first the value itself is to be put
-  pub slipped_start : (k : ℕ) → Slipped (put k v (lines_of a)) a.lines a.count v k
-  slipped_start k = record { rest = lines_of a; size = sym count_is; array = ap (λ (b : Axis). b.lines) h.held; whole = refl }
-
-  -- the store at place k makes the array that holds the lines with v at place k
-  pub shifted_end : (t : List ℕ) (k : ℕ) → k ≤ a.count → Shifted (padded 63 (lines_of a)) v t k → set t k v ≡ padded 64 (put k v (lines_of a))
-  shifted_end t k o s = s.whole ∙ put_padded (lines_of a) v (omega (arith, count_is, h.room)) k (omega (arith, count_is))
+  -- and where they are copied
+  pub line_copied : (k : ℕ) → k ≤ a.count
+      → set (take (k + 1) a.lines ++ take (a.count - k) (drop k a.lines) ++ drop (k + 1 + (a.count - k)) a.lines) k v ≡ padded 64 (put k v (lines_of a))
+  line_copied k o =
+      subst (λ (b : Axis). set (take (k + 1) b.lines ++ take (b.count - k) (drop k b.lines) ++ drop (k + 1 + (b.count - k)) b.lines) k v ≡ padded 64 (put k v (lines_of a)))
+      (sym h.held) (copied_put (lines_of a) v k (omega (arith, count_is, h.room)) (omega (arith, count_is)))
 
   -- where the line at v's position is v, the axis is the one with v inserted
   pub line_there : (k : ℕ) → k ≡ index_of a.lines a.count v → k < a.count → get_or a.lines k 0 ≡ v → a ≡ axis_of (insert v (lines_of a))

@@ -64,8 +64,8 @@ insert_rising v l = distinct_rises (v ∷ l)
 
 module _ (first second : List ℕ) where
   -- no lines are those of no runs
-  pub none_laid : (t : List ℕ) → t ≡ replicate 64 0 → ◌≡◌ {A = Axis} (record { lines = t; count = 0 }) (axis_of (distinct (values first second 0)))
-  none_laid t e = (λ i. record { lines = e i; count = 0 }) ∙ ap axis_of (sym (distinct_none first second))
+  pub none_laid : (a : Axis) → a ≡ axis_of [] → a ≡ axis_of (distinct (values first second 0))
+  none_laid a e = e ∙ ap axis_of (sym (distinct_none first second))
 
   -- the lines of so many runs are at most 64
   pub laid_few : (a : Axis) (n : ℕ) → n ≤ 32 → a ≡ axis_of (distinct (values first second n)) → a.count ≤ 64

@@ -1,10 +1,13 @@
 // The columns and rows of a job, and the position of a coordinate in them.
 #![tactic(auto)]
 
-ghost use Rattle.std.specs.Prelude.{◌≡◌, pred, ◌+◌, ◌<◌, ◌≤◌, min, max};
+ghost use Rattle.std.specs.Prelude.{◌≡◌, [], ◌∷◌, ◌++◌, pred, ◌+◌, ◌<◌, ◌≤◌};
 ghost use Rattle.network.specs.Distinct.{insert, distinct};
 ghost use Rattle.grid.specs.Tables.{table, padded};
-ghost use Rattle.grid.specs.Lines.{values, axis_of, lines_of, Room, RisingTo, index_of, put, length_at};
+ghost use Rattle.grid.specs.Lines.{values, axis_of, lines_of, Room, RisingTo, index_of, length_at};
+
+use job::Spans;
+use std::mem;
 
 // The columns of a job, or its rows: the first count words of lines, rising; the other words are 0.
 #[derive(Clone, Copy)]
@@ -20,148 +23,105 @@ pub struct Indices {
     pub second: u32,
 }
 
-pub fn least(a: u32, b: u32) -> u32
-    ensures { result ≡ min a b }
-{
-    if a < b { a } else { b }
-}
-
-pub fn most(a: u32, b: u32) -> u32
-    ensures { result ≡ max a b }
-{
-    if a < b { b } else { a }
-}
-
-// Puts a line at v among the first count lines, unless it is one of them, and says how many there are then.
-fn add_line(lines: &mut [u32; 64], count: usize, v: u32) -> usize
-    requires { Room (record { lines = lines.old; count = count }) }
-    ensures { record { lines = lines.new; count = result } ≡ axis_of (insert v (lines_of (record { lines = lines.old; count = count }))) }
-{
-    let at = position(&*lines, count, v) as usize;
-    if at < count {
-        if lines[at] == v {
-            return count;
-        }
-    }
-    if count < 16 {
-        slip(lines, at, count, v);
-    } else {
-        shift(lines, at, count, v);
-    }
-    count + 1
-}
-
-// Puts v at place `at` of the first count lines, and each line from there on one place further, the first of them first.
-fn slip(lines: &mut [u32; 64], at: usize, count: usize, v: u32)
-    requires { Room (record { lines = lines.old; count = count }) × (at ≤ count) }
-    ensures { lines.new ≡ padded 64 (put at v (lines_of (record { lines = lines.old; count = count }))) }
+// Puts v first, and each line one place further, the first of them first, and gives the last one.
+fn slip(lines: &mut [u32], v: u32) -> u32
+    ensures { lines.new ++ result ∷ [] ≡ v ∷ lines.old }
 {
     let mut held = v;
-    let mut i = at;
-    while i < count {
-        let next = lines[i];
-        lines[i] = held;
-        held = next;
-        i += 1;
+    for line in lines.iter_mut() {
+        held = mem::replace(line, held);
     }
-    lines[count] = held;
+    held
 }
 
-// The same, the last line first: one move of memory, which is quicker where there are many lines, and slower where there are few.
-fn shift(lines: &mut [u32; 64], at: usize, count: usize, v: u32)
-    requires { Room (record { lines = lines.old; count = count }) × (at ≤ count) }
-    ensures { lines.new ≡ padded 64 (put at v (lines_of (record { lines = lines.old; count = count }))) }
-{
-    let mut i = count;
-    while at < i {
-        lines[i] = lines[i - 1];
-        i -= 1;
-    }
-    lines[at] = v;
-}
-
-// Puts the lines of run i on one axis, of which the arrays hold the first and the second points' values, among those of the runs before it, and says how many there
-// are then.
-pub fn add_run(
-    lines: &mut [u32; 64],
-    count: usize,
-    first: &[u32; 32],
-    second: &[u32; 32],
-    i: usize,
-) -> usize
-    requires { (i < 32) × (record { lines = lines.old; count = count } ≡ axis_of (distinct (values first.now second.now i))) }
-    ensures { record { lines = lines.new; count = result } ≡ axis_of (distinct (values first.now second.now (i + 1))) }
-{
-    let more = add_line(lines, count, first[i]);
-    add_line(lines, more, second[i])
-}
-
-// The lines of the first n runs on one axis.
-pub fn axis_of(first: &[u32; 32], second: &[u32; 32], n: usize) -> Axis
-    requires { n ≤ 32 }
-    ensures { (result ≡ axis_of (distinct (values first.now second.now n))) × (result.count ≤ 64) }
-{
-    let mut lines = [0u32; 64];
-    let mut count: usize = 0;
-    let mut i: usize = 0;
-    while i < n {
-        count = add_run(&mut lines, count, first, second, i);
-        i += 1;
-    }
-    Axis { lines, count }
-}
-
-// How many of the first count lines are below v: the index of the line at v, where there is one.
-// The counter is as wide as the lines, so that the loop takes as many lines at a time as a vector has.
-pub fn position(lines: &[u32; 64], count: usize, v: u32) -> u32
-    requires { count ≤ 64 }
-    ensures { (result ≡ index_of lines.now count v) × (result ≤ count) }
-{
-    let mut k: u32 = 0;
-    let mut i: usize = 0;
-    while i < count {
-        if lines[i] < v {
-            k += 1;
+impl Axis {
+    // No lines.
+    pub fn new() -> Self
+        ensures { result ≡ axis_of [] }
+    {
+        Axis {
+            lines: [0; 64],
+            count: 0,
         }
-        i += 1;
     }
-    k
-}
 
-// The positions of two values in one pass.
-pub fn positions(lines: &[u32; 64], count: usize, v: u32, w: u32) -> Indices
-    requires { count ≤ 64 }
-    ensures { result ≡ record { first = index_of lines.now count v; second = index_of lines.now count w } }
-{
-    let mut k: u32 = 0;
-    let mut m: u32 = 0;
-    let mut i: usize = 0;
-    while i < count {
-        let line = lines[i];
-        if line < v {
-            k += 1;
+    // The lines of the first n runs on one axis.
+    pub fn of(spans: &Spans, n: usize) -> Self
+        requires { n ≤ 32 }
+        ensures { (result ≡ axis_of (distinct (values spans.now.first spans.now.second n))) × (result.count ≤ 64) }
+    {
+        let mut axis = Axis::new();
+        for i in 0..n {
+            axis.add_run(spans, i);
         }
-        if line < w {
-            m += 1;
-        }
-        i += 1;
+        axis
     }
-    Indices {
-        first: k,
-        second: m,
-    }
-}
 
-// The lengths of the edges from each of the first count lines to the next.
-pub fn edge_lengths(lines: &[u32; 64], count: usize) -> [u32; 64]
-    requires { (count ≤ 64) × RisingTo lines.now count }
-    ensures { result ≡ padded 64 (table (length_at lines.now) (pred count)) }
-{
-    let mut t = [0u32; 64];
-    let mut i: usize = 0;
-    while i + 1 < count {
-        t[i] = lines[i + 1] - lines[i];
-        i += 1;
+    // Puts the lines of run i among those of the runs before it.
+    pub fn add_run(&mut self, spans: &Spans, i: usize)
+        requires { (i < 32) × (self.old ≡ axis_of (distinct (values spans.now.first spans.now.second i))) }
+        ensures { self.new ≡ axis_of (distinct (values spans.now.first spans.now.second (i + 1))) }
+    {
+        self.add_line(spans.first[i]);
+        self.add_line(spans.second[i]);
     }
-    t
+
+    // Puts a line at v among the lines, unless it is one of them.
+    fn add_line(&mut self, v: u32)
+        requires { Room self.old }
+        ensures { self.new ≡ axis_of (insert v (lines_of self.old)) }
+    {
+        let at = self.position(v) as usize;
+        let count = self.count;
+        if at < count && self.lines[at] == v {
+            return;
+        }
+        // One move of memory is quicker where there are many lines, and slower where there are few.
+        if count < 16 {
+            self.lines[count] = slip(&mut self.lines[at..count], v);
+        } else {
+            self.lines.copy_within(at..count, at + 1);
+            self.lines[at] = v;
+        }
+        self.count = count + 1;
+    }
+
+    // How many of the lines are below v: the index of the line at v, where there is one.
+    // The counter is as wide as the lines, so that the loop takes as many lines at a time as a vector has.
+    pub fn position(&self, v: u32) -> u32
+        requires { self.now.count ≤ 64 }
+        ensures { (result ≡ index_of self.now.lines self.now.count v) × (result ≤ self.now.count) }
+    {
+        let mut k: u32 = 0;
+        for line in &self.lines[..self.count] {
+            k += u32::from(*line < v);
+        }
+        k
+    }
+
+    // The positions of two values in one pass.
+    pub fn positions(&self, v: u32, w: u32) -> Indices
+        requires { self.now.count ≤ 64 }
+        ensures { result ≡ record { first = index_of self.now.lines self.now.count v; second = index_of self.now.lines self.now.count w } }
+    {
+        let mut first: u32 = 0;
+        let mut second: u32 = 0;
+        for line in &self.lines[..self.count] {
+            first += u32::from(*line < v);
+            second += u32::from(*line < w);
+        }
+        Indices { first, second }
+    }
+
+    // The lengths of the edges from each line to the next.
+    pub fn edge_lengths(&self) -> [u32; 64]
+        requires { (self.now.count ≤ 64) × RisingTo self.now.lines self.now.count }
+        ensures { result ≡ padded 64 (table (length_at self.now.lines) (pred self.now.count)) }
+    {
+        let mut t = [0u32; 64];
+        for i in 1..self.count {
+            t[i - 1] = self.lines[i] - self.lines[i - 1];
+        }
+        t
+    }
 }

@@ -1,43 +1,15 @@
 -- Reading digits: byte k is what pair k stands for, and there are half as many bytes as digits; so the stores copy the bytes one by one.
 use mathlib.Core.Path.{◌≡◌, refl, sym, ap, ap₂, ◌∙◌}
 use mathlib.Core.List.{List, [], ◌∷◌, ◌++◌}
-use Prim.Native.Nat.{ℕ, zero, suc, ◌+◌, ◌-◌, ◌*◌, ◌/◌, ◌≤◌, ◌<◌, min}
+use Prim.Native.Nat.{ℕ, zero, suc, ◌+◌, ◌*◌, ◌/◌, ◌≤◌, ◌<◌, min}
 use native.Mathlib.Nat.{zero-add}
 use native.Mathlib.Numerals.{add-one}
 use native.Mathlib.Decide.{dec_le}
 use native.Mathlib.Omega.{arith}
-use borrow.Author.Tests.{le-leb, lt-leb}
 use lib.ListN.{length, take, drop, set, get_or, length-set}
 use lib.Seq.{take_all, length-take-le, paste, paste-suc}
 use Rattle.hexadecimal.proofs.Counting.{prefix_len_of_le}
 use Rattle.hexadecimal.specs.Digits.{digit_of, bytes_of, Unhexed}
-
--- ---- digits
-
--- 0 to 9
-pub digit_low : (c : ℕ) → 48 ≤ c → c < 58 → c - 48 ≡ digit_of c
-unfolding digit_of
-digit_low c h k = simp (le-leb 48 c h, le-leb c 57 (omega arith))
-
--- a to f
-pub digit_high : (c : ℕ) → 97 ≤ c → c < 103 → c - 87 ≡ digit_of c
-unfolding digit_of
-digit_high c h k = let l : 57 < c = omega arith in simp (le-leb 48 c (omega arith), lt-leb c 57 l, le-leb 97 c h, le-leb c 102 (omega arith))
-
--- a byte before all digits
-pub digit_before : (c : ℕ) → c < 48 → 0 ≡ digit_of c
-unfolding digit_of
-digit_before c h = simp (lt-leb 48 c h, lt-leb 97 c (omega arith))
-
--- one between the two kinds
-pub digit_between : (c : ℕ) → 58 ≤ c → c < 97 → 0 ≡ digit_of c
-unfolding digit_of
-digit_between c h k = simp (le-leb 48 c (omega arith), lt-leb c 57 (omega arith), lt-leb 97 c k)
-
--- one behind all digits
-pub digit_behind : (c : ℕ) → 103 ≤ c → 0 ≡ digit_of c
-unfolding digit_of
-digit_behind c h = simp (le-leb 48 c (omega arith), lt-leb c 57 (omega arith), le-leb 97 c (omega arith), lt-leb c 102 (omega arith))
 
 -- ---- bytes
 
@@ -65,7 +37,6 @@ bytes_at (a ∷ b ∷ digits) (suc k) h =
 -- the first k bytes stand at the front of xs
 pub record Stored (digits xs ys : List ℕ) (n k : ℕ) : Type 0 where
   pub count : n ≡ min (length digits / 2) (length xs)
-  pub some : k ≤ n
   pub same : length ys ≡ length xs
   pub bytes : ys ≡ paste xs 0 (bytes_of digits) k
 
@@ -78,7 +49,6 @@ module _ (digits xs ys : List ℕ) (n k : ℕ) (i : Stored digits xs ys n k) whe
       let v : b ≡ get_or (bytes_of digits) k 0 = e ∙ sym (bytes_at digits k l) in
       record {
         count = i.count;
-        some = omega arith;
         same = length-set ys k b ∙ i.same;
         bytes =
             ap₂ (λ zs a. set zs k a) i.bytes v
@@ -88,22 +58,21 @@ module _ (digits xs ys : List ℕ) (n k : ℕ) (i : Stored digits xs ys n k) whe
       }
 
   -- as many bytes are stored as there are, or as there is room for
-  stored_cut : n ≤ k → take k (bytes_of digits) ≡ take (length xs) (bytes_of digits)
+  stored_cut : k ≡ n → take k (bytes_of digits) ≡ take (length xs) (bytes_of digits)
   stored_cut h = go (dec_le (length digits / 2) (length xs))
     where
       go : Dec (length digits / 2 ≤ length xs) → take k (bytes_of digits) ≡ take (length xs) (bytes_of digits)
       go (yes l) =
           take_all k (bytes_of digits) (omega (arith, i.count, bytes_length digits))
           ∙ sym (take_all (length xs) (bytes_of digits) (omega (arith, bytes_length digits)))
-      go (no l) = let e : k ≡ length xs = omega (arith, i.count, i.some) in ap (λ j. take j (bytes_of digits)) e
+      go (no l) = let e : k ≡ length xs = omega (arith, i.count) in ap (λ j. take j (bytes_of digits)) e
 
   -- all that are due are stored
-  pub stored_all : n ≤ k → Unhexed digits xs ys n
-  stored_all h =
-      let e : k ≡ n = omega (arith, i.some) in
-      let size = length-take-le k (bytes_of digits) (omega (arith, i.count, i.some, bytes_length digits)) in
+  pub stored_all : k ≡ n → Unhexed digits xs ys n
+  stored_all e =
+      let size = length-take-le k (bytes_of digits) (omega (arith, e, i.count, bytes_length digits)) in
       record {
-        bytes = i.bytes ∙ ap₂ (λ front j. front ++ drop j xs) (stored_cut h) (zero-add k ∙ e);
-        size = sym e ∙ sym size ∙ ap length (stored_cut h);
+        bytes = i.bytes ∙ ap₂ (λ front j. front ++ drop j xs) (stored_cut e) (zero-add k ∙ e);
+        size = sym e ∙ sym size ∙ ap length (stored_cut e);
         counts = prefix_len_of_le _ _ (omega (arith, i.count, i.same));
       }

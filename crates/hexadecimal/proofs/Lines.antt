@@ -36,9 +36,9 @@ module _ (c : ℕ) (text : List ℕ) (from i : ℕ) (s : Sought c text from i) w
   sought_found h e = stands (ap (place_in c) (drop-cons text i 0 h) ∙ place_here c (get_or text i 0) (drop (suc i) text) e)
 
   -- the text ends
-  pub sought_end : length text ≤ i → Stands c text from i
+  pub sought_end : length text ≤ i → Stands c text from (length text)
   unfolding place_in
-  sought_end h = stands (ap (place_in c) (drop_of_length-le text h))
+  sought_end h = let e : length text ≡ i = omega (arith, s.within) in rw e (stands (ap (place_in c) (drop_of_length-le text h)))
 
   -- another byte is passed
   pub sought_next : i < length text → (get_or text i 0 ≡ c → ⊥) → Sought c text from (i + 1)

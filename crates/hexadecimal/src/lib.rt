@@ -1,32 +1,19 @@
 // Lines of text and bytes in hexadecimal: how the test programs read their vectors.
 #![tactic(auto)]
 
-ghost use Rattle.std.specs.Prelude.{◌≡◌, ◌+◌, ◌*◌, ◌/◌, ◌<◌, ◌≤◌, min, length, get_or};
+ghost use Rattle.std.specs.Prelude.{◌≡◌, ◌+◌, ◌*◌, ◌/◌, ◌<◌, ◌≤◌, length, get_or};
 ghost use Rattle.hexadecimal.specs.Digits.{digit_of, Unhexed};
 ghost use Rattle.hexadecimal.specs.Lines.{Stands};
 
-pub fn least(a: usize, b: usize) -> usize
-    ensures { result ≡ min a b }
-{
-    if a < b { a } else { b }
-}
-
+#[tactic(auto, unfolding(crate::specs::Digits::digit_of))]
 fn digit(c: u8) -> u8
     ensures { (result ≡ digit_of c) × (result < 16) }
 {
-    if c < 48 {
-        return 0;
+    match c {
+        b'0'..=b'9' => c - b'0',
+        b'a'..=b'f' => c - b'a' + 10,
+        _ => 0,
     }
-    if c < 58 {
-        return c - 48;
-    }
-    if c < 97 {
-        return 0;
-    }
-    if c < 103 {
-        return c - 87;
-    }
-    0
 }
 
 // The byte that pair k of the digits stands for.
@@ -41,11 +28,9 @@ fn pair(digits: &[u8], k: usize) -> u8
 pub fn unhex(digits: &[u8], out: &mut [u8]) -> usize
     ensures { Unhexed digits.now out.old out.new result }
 {
-    let n = least(digits.len() / 2, out.len());
-    let mut k: usize = 0;
-    while k < n {
+    let n = (digits.len() / 2).min(out.len());
+    for k in 0..n {
         out[k] = pair(digits, k);
-        k = k + 1;
     }
     n
 }
@@ -55,12 +40,10 @@ pub fn place_of(text: &[u8], c: u8, from: usize) -> usize
     requires { from ≤ length text.now }
     ensures { Stands c text.now from result }
 {
-    let mut i = from;
-    while i < text.len() {
+    for i in from..text.len() {
         if text[i] == c {
             return i;
         }
-        i = i + 1;
     }
-    i
+    text.len()
 }

@@ -6,6 +6,7 @@ use Prim.Native.Nat.{ℕ, ◌+◌, ◌≤◌, ◌<◌}
 use native.Mathlib.Numerals.{add-one}
 use native.Mathlib.Omega.{arith}
 use lib.ListN.{length, get_or}
+use Rattle.std.specs.Prelude.{Some, None}
 use Rattle.network.specs.Lists.{every, count, select}
 use Rattle.network.specs.Graph.{below, degree}
 use Rattle.network.proofs.Sums.{length_select}
@@ -19,8 +20,7 @@ use Rattle.groups.specs.Graph.{Graph}
 use Rattle.groups.specs.Near.{first_of, is_lone, is_local, near_centre}
 use Rattle.groups.proofs.Near.{local_stars, near_is}
 use Rattle.intersection.specs.Sets.{has, members, pack}
-use Rattle.intersection.specs.declared.finder.Centres.{Centres}
-use Rattle.intersection.specs.Centres.{joined_in, centres_at, no_centres, centres_in}
+use Rattle.intersection.specs.Centres.{joined_in, centres_at, centres_in}
 use Rattle.intersection.proofs.Digits.{has_pack}
 use Rattle.intersection.proofs.Lists.{every_cong, every_below}
 
@@ -65,16 +65,12 @@ every_off t i n h f = sym (is_false (every t (below n)) (λ e. true≢false (sym
 
 module _ (joined : ℕ → ℕ → Bool) (n : ℕ) (few : n ≤ 32) (graph : Graph joined n) where
   -- every group is a star
-  pub found_each : every (is_local joined 32) (below n) ≡ true → (centres : List ℕ) → centres ≡ padded 32 (table (near_centre joined 32) n)
-      → record { stars = true; centres = centres } ≡ centres_in joined n
+  pub found_each : every (is_local joined 32) (below n) ≡ true → (centres : List ℕ) → centres ≡ padded 32 (table (near_centre joined 32) n) → Some centres ≡ centres_in joined n
   found_each t centres e =
       let s = sym (local_stars graph 32 few) ∙ t in
-      ap all (e ∙ ap (padded 32) (table_same (near_centre joined 32) (centre_of joined n) n (near_is graph 32 few s)))
-      ∙ sym (ap (λ b. cond b (all (centres_at joined n)) no_centres) s)
-    where
-      all : List ℕ → Centres
-      all l = record { stars = true; centres = l }
+      ap Some (e ∙ ap (padded 32) (table_same (near_centre joined 32) (centre_of joined n) n (near_is graph 32 few s)))
+      ∙ sym (ap (λ b. cond b (Some (centres_at joined n)) None) s)
 
   -- or some group is none
-  pub found_none : every (is_local joined 32) (below n) ≡ false → no_centres ≡ centres_in joined n
-  found_none f = sym (ap (λ b. cond b (record { stars = true; centres = centres_at joined n }) no_centres) (sym (local_stars graph 32 few) ∙ f))
+  pub found_none : every (is_local joined 32) (below n) ≡ false → None ≡ centres_in joined n
+  found_none f = sym (ap (λ b. cond b (Some (centres_at joined n)) None) (sym (local_stars graph 32 few) ∙ f))

@@ -22,6 +22,7 @@ use Rattle.network.specs.Hanan.{hanan}
 use Rattle.network.specs.Graph.{run_at}
 use Rattle.network.proofs.Numbers.{order}
 use Rattle.network.proofs.Meeting.{meets_turned}
+use Rattle.job.specs.declared.Spans.{Spans}
 use Rattle.grid.specs.Tables.{table, padded}
 use Rattle.grid.specs.Runs.{runs_held}
 use Rattle.grid.proofs.Tables.{table_same, length_padded, get_or_padded, get_or_behind, table_held}
@@ -32,7 +33,7 @@ use Rattle.intersection.specs.declared.Case.{Case}
 use Rattle.intersection.specs.Sets.{has, pack}
 use Rattle.intersection.specs.Cases.{box_of, Common, Makes, meeting}
 use Rattle.intersection.specs.Centres.{meets_in, neighbour_sets}
-use Rattle.intersection.specs.Steps.{lower_sides, higher_sides, box_at, seen, part_sets, Tells, Compared}
+use Rattle.intersection.specs.Steps.{sides_of, box_at, seen, part_sets, Tells, Compared}
 use Rattle.intersection.proofs.Digits.{pack_none}
 use Rattle.intersection.proofs.Members.{pack_add, pack_skip}
 use Rattle.intersection.proofs.Cases.{meets_hanan}
@@ -187,13 +188,12 @@ module _ (box : ℕ → Box) (i j : ℕ) (later : j < i) (few : i < 32) (p q : B
 
 -- ---- the runs of a job
 
-module _ (x1 y1 x2 y2 : List ℕ) (n : ℕ) (few : n ≤ 32) (left right low high : List ℕ) (left_is : left ≡ lower_sides x1 x2 n) (right_is : right ≡ higher_sides x1 x2 n)
-    (low_is : low ≡ lower_sides y1 y2 n) (high_is : high ≡ higher_sides y1 y2 n) where
+module _ (x y : Spans) (n : ℕ) (few : n ≤ 32) (wide high : Spans) (wide_is : wide ≡ sides_of x n) (high_is : high ≡ sides_of y n) where
   abbrev box : ℕ → Box
-  box = box_at left right low high
+  box = box_at wide high
 
   abbrev runs : List Run
-  runs = runs_held x1 y1 x2 y2 n
+  runs = runs_held x.first y.first x.second y.second n
 
   -- a side of a box, read from its array
   side : (f : ℕ → ℕ) (i : ℕ) → i < n → get_or (padded 32 (table f n)) i 0 ≡ f i
@@ -202,19 +202,19 @@ module _ (x1 y1 x2 y2 : List ℕ) (n : ℕ) (few : n ≤ 32) (left right low hig
   -- the sides are those of the runs' boxes
   box_is : (i : ℕ) → i < n → box i ≡ box_of (run_at runs i)
   box_is i h =
-      (λ o. box_at (left_is o) (right_is o) (low_is o) (high_is o) i)
-      ∙ (λ o. record { left = side (lower x1 x2) i h o; right = side (higher x1 x2) i h o; low = side (lower y1 y2) i h o; high = side (higher y1 y2) i h o })
-      ∙ sym (ap box_of (run_at_lem x1 y1 x2 y2 n i h))
+      (λ o. box_at (wide_is o) (high_is o) i)
+      ∙ (λ o. record { left = side (lower x) i h o; right = side (higher x) i h o; low = side (lower y) i h o; high = side (higher y) i h o })
+      ∙ sym (ap box_of (run_at_lem x.first y.first x.second y.second n i h))
     where
-      lower : List ℕ → List ℕ → ℕ → ℕ
-      lower a b i = min (get_or a i 0) (get_or b i 0)
+      lower : Spans → ℕ → ℕ
+      lower s i = min (get_or s.first i 0) (get_or s.second i 0)
 
-      higher : List ℕ → List ℕ → ℕ → ℕ
-      higher a b i = max (get_or a i 0) (get_or b i 0)
+      higher : Spans → ℕ → ℕ
+      higher s i = max (get_or s.first i 0) (get_or s.second i 0)
 
   -- so their cases tell which runs meet
   pub told_meets : (i j : ℕ) → i < n → j < i → Tells box (meets_in runs) i j
   told_meets i j h k c m =
-      let l = length_runs x1 y1 x2 y2 n in
+      let l = length_runs x.first y.first x.second y.second n in
       let e = meets_hanan runs i j (omega arith) (omega arith) (omega arith) c (rw (box_is i h, box_is j (omega arith)) at m) in
       (e, meets_turned (hanan runs) runs i j ∙ e)

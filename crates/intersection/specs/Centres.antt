@@ -1,12 +1,11 @@
 -- The runs that meet, and the finder's answer: "The finder that named one centre names the centre of each run's group instead" (02, C-16). A job is
 -- "accepted if every group is a star; 11 means that some group isn't".
-use Rattle.std.specs.Prelude.{Bool, true, false, cond, List, ℕ, get_or, replicate}
+use Rattle.std.specs.Prelude.{Bool, cond, List, ℕ, Option, Some, None, get_or}
 use Rattle.network.specs.Plane.{Run}
 use Rattle.network.specs.Hanan.{hanan}
 use Rattle.network.specs.Graph.{meets}
 use Rattle.grid.specs.Tables.{table, padded}
 use Rattle.groups.specs.Groups.{all_stars, centre_of}
-use Rattle.intersection.specs.declared.finder.Centres.{Centres}
 use Rattle.intersection.specs.Sets.{has, pack}
 
 -- runs i and j of some runs meet: some edge of the runs' own Hanan grid lies in both boxes
@@ -25,9 +24,6 @@ joined_in sets i j = has (get_or sets i 0) j
 abbrev pub centres_at : (ℕ → ℕ → Bool) → ℕ → List ℕ
 centres_at joined n = padded 32 (table (centre_of joined n) n)
 
--- the answer: every group is a star, and the centre of each run's group; or some group is none
-abbrev pub no_centres : Centres
-no_centres = record { stars = false; centres = replicate 32 0 }
-
-abbrev pub centres_in : (ℕ → ℕ → Bool) → ℕ → Centres
-centres_in joined n = cond (all_stars joined n) (record { stars = true; centres = centres_at joined n }) no_centres
+-- the answer: the centre of each run's group, if every group is a star
+abbrev pub centres_in : (ℕ → ℕ → Bool) → ℕ → Option (List ℕ)
+centres_in joined n = cond (all_stars joined n) (Some (centres_at joined n)) None

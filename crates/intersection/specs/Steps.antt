@@ -1,5 +1,6 @@
 -- What the functions between say: boxes by their sides, and the sets while the runs are compared.
-use Rattle.std.specs.Prelude.{◌≡◌, List, Bool, false, cond, ℕ, suc, ◌<◌, min, max, ltb, get_or}
+use Rattle.std.specs.Prelude.{◌≡◌, List, Bool, false, cond, ℕ, suc, ◌<◌, min, max, ltb, get_or, replicate}
+use Rattle.job.specs.declared.Spans.{Spans}
 use Rattle.grid.specs.Tables.{table, padded}
 use Rattle.intersection.specs.declared.Box.{Box}
 use Rattle.intersection.specs.declared.Case.{Case}
@@ -9,16 +10,21 @@ use Rattle.intersection.specs.Centres.{neighbour_sets}
 
 -- ---- boxes
 
--- the lower and the higher side of the first n runs' boxes on one axis, from the values of the first points and of the second
-abbrev pub lower_sides : List ℕ → List ℕ → ℕ → List ℕ
-lower_sides first second n = padded 32 (table (λ i. min (get_or first i 0) (get_or second i 0)) n)
+-- the sides of the first n runs' boxes on one axis, the lower and the higher, from the values of the first points and of the second
+abbrev pub sides_of : Spans → ℕ → Spans
+sides_of s n =
+    record {
+      first = padded 32 (table (λ i. min (get_or s.first i 0) (get_or s.second i 0)) n);
+      second = padded 32 (table (λ i. max (get_or s.first i 0) (get_or s.second i 0)) n);
+    }
 
-abbrev pub higher_sides : List ℕ → List ℕ → ℕ → List ℕ
-higher_sides first second n = padded 32 (table (λ i. max (get_or first i 0) (get_or second i 0)) n)
+-- no sides yet
+abbrev pub no_sides : Spans
+no_sides = record { first = replicate 32 0; second = replicate 32 0 }
 
--- the box at index i of the four sides
-abbrev pub box_at : List ℕ → List ℕ → List ℕ → List ℕ → ℕ → Box
-box_at left right low high i = record { left = get_or left i 0; right = get_or right i 0; low = get_or low i 0; high = get_or high i 0 }
+-- the box at index i of the sides on both axes
+abbrev pub box_at : Spans → Spans → ℕ → Box
+box_at wide high i = record { left = get_or wide.first i 0; right = get_or wide.second i 0; low = get_or high.first i 0; high = get_or high.second i 0 }
 
 -- ---- comparisons
 

@@ -9,7 +9,9 @@ ghost use Rattle.grid.specs.Runs.{runs_held};
 ghost use Rattle.network.specs.Graph.{below, degree};
 ghost use Rattle.intersection.specs.Cases.{Common, Makes, meeting};
 ghost use Rattle.intersection.specs.Centres.{meets_in, neighbour_sets, joined_in};
-ghost use Rattle.intersection.specs.Steps.{lower_sides, higher_sides, box_at, Compared, AllCompared};
+ghost use Rattle.intersection.specs.Steps.{no_sides, sides_of, box_at, Compared, AllCompared};
+
+use job::Spans;
 
 // The smallest upright rectangle that holds a run's two points.
 #[derive(Clone, Copy)]
@@ -30,35 +32,27 @@ pub enum Case {
 }
 
 // Puts the sides of the first n runs' boxes on one axis, the lower of each run's two values and the higher, among zeros.
-fn box_sides(
-    first: &[u32; 32],
-    second: &[u32; 32],
-    n: usize,
-    lower: &mut [u32; 32],
-    higher: &mut [u32; 32],
-)
-    requires { (n ≤ 32) × (lower.old ≡ replicate 32 0) × (higher.old ≡ replicate 32 0) }
-    ensures { (lower.new ≡ lower_sides first.now second.now n) × (higher.new ≡ higher_sides first.now second.now n) }
+fn box_sides(spans: &Spans, n: usize, sides: &mut Spans)
+    requires { (n ≤ 32) × (sides.old ≡ no_sides) }
+    ensures { sides.new ≡ sides_of spans.now n }
 {
-    let mut i: usize = 0;
-    while i < n {
-        let a = first[i];
-        let b = second[i];
-        lower[i] = grid::least(a, b);
-        higher[i] = grid::most(a, b);
-        i += 1;
+    for i in 0..n {
+        let a = spans.first[i];
+        let b = spans.second[i];
+        sides.first[i] = a.min(b);
+        sides.second[i] = a.max(b);
     }
 }
 
-fn box_at(left: &[u32; 32], right: &[u32; 32], low: &[u32; 32], high: &[u32; 32], i: usize) -> Box
+fn box_at(wide: &Spans, high: &Spans, i: usize) -> Box
     requires { i < 32 }
-    ensures { result ≡ box_at left.now right.now low.now high.now i }
+    ensures { result ≡ box_at wide.now high.now i }
 {
     Box {
-        left: left[i],
-        right: right[i],
-        low: low[i],
-        high: high[i],
+        left: wide.first[i],
+        right: wide.second[i],
+        low: high.first[i],
+        high: high.second[i],
     }
 }
 
@@ -66,10 +60,10 @@ fn box_at(left: &[u32; 32], right: &[u32; 32], low: &[u32; 32], high: &[u32; 32]
 pub fn case_of(a: Box, b: Box) -> Case
     ensures { Makes (Common a b) result }
 {
-    let left = grid::most(a.left, b.left);
-    let right = grid::least(a.right, b.right);
-    let low = grid::most(a.low, b.low);
-    let high = grid::least(a.high, b.high);
+    let left = a.left.max(b.left);
+    let right = a.right.min(b.right);
+    let low = a.low.max(b.low);
+    let high = a.high.min(b.high);
     if (right < left) | (high < low) {
         return Case::Apart;
     }
@@ -86,29 +80,16 @@ pub fn case_of(a: Box, b: Box) -> Case
 fn is_meeting(case: Case) -> bool
     ensures { result ≡ meeting case }
 {
-    match case {
-        Case::Apart => false,
-        Case::OnePoint => false,
-        Case::LinePiece => true,
-        Case::Area => true,
-    }
+    matches!(case, Case::LinePiece | Case::Area)
 }
 
 // Runs i and j are compared: where they meet, each is put into the set of the other.
-fn compare(
-    left: &[u32; 32],
-    right: &[u32; 32],
-    low: &[u32; 32],
-    high: &[u32; 32],
-    i: usize,
-    j: usize,
-    neighbours: &mut [u32; 32],
-)
+fn compare(wide: &Spans, high: &Spans, i: usize, j: usize, neighbours: &mut [u32; 32])
     requires { (j < i) × (i < 32) }
-    ensures { Compared (box_at left.now right.now low.now high.now) i j neighbours.old neighbours.new }
+    ensures { Compared (box_at wide.now high.now) i j neighbours.old neighbours.new }
 {
-    let a = box_at(left, right, low, high, i);
-    let b = box_at(left, right, low, high, j);
+    let a = box_at(wide, high, i);
+    let b = box_at(wide, high, j);
     if is_meeting(case_of(a, b)) {
         neighbours[i] = sets::add(neighbours[i], j);
         neighbours[j] = sets::add(neighbours[j], i);
@@ -116,71 +97,48 @@ fn compare(
 }
 
 // Run i is compared with each run before it.
-fn compare_all(
-    left: &[u32; 32],
-    right: &[u32; 32],
-    low: &[u32; 32],
-    high: &[u32; 32],
-    i: usize,
-    neighbours: &mut [u32; 32],
-)
+fn compare_all(wide: &Spans, high: &Spans, i: usize, neighbours: &mut [u32; 32])
     requires { i < 32 }
-    ensures { AllCompared (box_at left.now right.now low.now high.now) i neighbours.old neighbours.new }
+    ensures { AllCompared (box_at wide.now high.now) i neighbours.old neighbours.new }
 {
-    let mut j: usize = 0;
-    while j < i {
-        compare(left, right, low, high, i, j, neighbours);
-        j += 1;
+    for j in 0..i {
+        compare(wide, high, i, j, neighbours);
     }
 }
 
-// Puts the set of the runs that each of the first n runs meets among zeros, and the sides of their boxes among four times as many. Each pair is compared once:
+// Puts the set of the runs that each of the first n runs meets among zeros, and the sides of their boxes on both axes too. Each pair is compared once:
 // 496 comparisons for 32 runs.
 pub fn find_neighbours(
-    x1: &[u32; 32],
-    y1: &[u32; 32],
-    x2: &[u32; 32],
-    y2: &[u32; 32],
+    x: &Spans,
+    y: &Spans,
     n: usize,
     sets: &mut [u32; 32],
-    left: &mut [u32; 32],
-    right: &mut [u32; 32],
-    low: &mut [u32; 32],
-    high: &mut [u32; 32],
+    wide: &mut Spans,
+    high: &mut Spans,
 )
-    requires { (n ≤ 32) × (sets.old ≡ replicate 32 0) × (left.old ≡ replicate 32 0) × (right.old ≡ replicate 32 0) × (low.old ≡ replicate 32 0) × (high.old ≡ replicate 32 0) }
-    ensures { (sets.new ≡ neighbour_sets (meets_in (runs_held x1.now y1.now x2.now y2.now n)) n)
-        × (left.new ≡ lower_sides x1.now x2.now n) × (right.new ≡ higher_sides x1.now x2.now n)
-        × (low.new ≡ lower_sides y1.now y2.now n) × (high.new ≡ higher_sides y1.now y2.now n) }
+    requires { (n ≤ 32) × (sets.old ≡ replicate 32 0) × (wide.old ≡ no_sides) × (high.old ≡ no_sides) }
+    ensures { (sets.new ≡ neighbour_sets (meets_in (runs_held x.now.first y.now.first x.now.second y.now.second n)) n)
+        × (wide.new ≡ sides_of x.now n) × (high.new ≡ sides_of y.now n) }
 {
-    box_sides(x1, x2, n, left, right);
-    box_sides(y1, y2, n, low, high);
-    let mut i: usize = 0;
-    while i < n {
-        compare_all(&*left, &*right, &*low, &*high, i, sets);
-        i += 1;
+    box_sides(x, n, wide);
+    box_sides(y, n, high);
+    for i in 0..n {
+        compare_all(&*wide, &*high, i, sets);
     }
 }
 
 // The same sets by value.
-pub fn neighbours(
-    x1: &[u32; 32],
-    y1: &[u32; 32],
-    x2: &[u32; 32],
-    y2: &[u32; 32],
-    n: usize,
-) -> [u32; 32]
+pub fn neighbours(x: &Spans, y: &Spans, n: usize) -> [u32; 32]
     requires { n ≤ 32 }
-    ensures { result ≡ neighbour_sets (meets_in (runs_held x1.now y1.now x2.now y2.now n)) n }
+    ensures { result ≡ neighbour_sets (meets_in (runs_held x.now.first y.now.first x.now.second y.now.second n)) n }
 {
-    let mut sets = [0u32; 32];
-    let mut left = [0u32; 32];
-    let mut right = [0u32; 32];
-    let mut low = [0u32; 32];
-    let mut high = [0u32; 32];
-    find_neighbours(
-        x1, y1, x2, y2, n, &mut sets, &mut left, &mut right, &mut low, &mut high,
-    );
+    let mut sets = [0; 32];
+    let mut wide = Spans {
+        first: [0; 32],
+        second: [0; 32],
+    };
+    let mut high = wide;
+    find_neighbours(x, y, n, &mut sets, &mut wide, &mut high);
     sets
 }
 

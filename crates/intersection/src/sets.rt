@@ -30,12 +30,12 @@ pub fn subset(a: u32, b: u32) -> bool
 pub fn size(s: u32) -> u32
     ensures { result ≡ count (has s) (below 32) }
 {
-    u32::count_ones(s)
+    s.count_ones()
 }
 
 // The lowest member of s, or 32 where it has none.
 pub fn lowest(s: u32) -> u32
     ensures { result ≡ get_or (members s) 0 32 }
 {
-    u32::trailing_zeros(s)
+    s.trailing_zeros()
 }

@@ -13,11 +13,10 @@ use Rattle.job.specs.declared.Run.{Run}
 use Rattle.job.specs.declared.Record.{Record}
 use Rattle.job.specs.declared.Record.TheVariants as rec
 use Rattle.refusal.specs.declared.Refusal.{Refusal}
-use Rattle.job.specs.declared.Step.{Step}
-use Rattle.job.specs.declared.Step.TheVariants.{Next, End, Refuse}
+use Rattle.std.specs.Prelude.{Some, None, Ok, Err}
 use Rattle.job.specs.Fields.{word4, biased_of, word_of}
 use Rattle.job.specs.Records.{run_body, record_of}
-use Rattle.job.specs.Parse.{Parsed, accepted, refused, step_of, with_first, proceed, read_from, first_by, parse}
+use Rattle.job.specs.Parse.{Step, Parsed, accepted, refused, step_of, with_first, proceed, read_from, first_by, parse}
 use Rattle.job.specs.Written.{bytes2, bytes4, run_bytes, runs_bytes, bytes_of, Bytes, WellFormed}
 use Rattle.job.proofs.Signed.{word_of_biased}
 use Rattle.job.proofs.Fields.{bytes_drop, bytes2_word, bytes4_word}
@@ -86,7 +85,7 @@ refused_accepted x number runs e = let z : ◌≡◌ {A = ℕ} 0 1 = cc in omega
 
 module _ (number : ℕ) (at n last : ℕ) (bytes : List ℕ) (h : Bytes bytes) (m : n ≤ 32) (number₁ : ℕ) where
   -- one more run, in front of those that the later records give
-  rest_run : (r : Run) → step_of at n last bytes ≡ Next r → (p : Parsed) (runs : List Run) → with_first r p ≡ accepted number₁ runs
+  rest_run : (r : Run) → step_of at n last bytes ≡ Ok (Some r) → (p : Parsed) (runs : List Run) → with_first r p ≡ accepted number₁ runs
       → ((qs : List Run) → n < 32 → p ≡ accepted number₁ qs → Rest number (suc n) r.number (drop 19 bytes) number₁ qs)
       → Rest number n last bytes number₁ runs
   unfolding runs_bytes
@@ -106,7 +105,7 @@ module _ (number : ℕ) (at n last : ℕ) (bytes : List ℕ) (h : Bytes bytes) (
       })
 
   -- the end
-  rest_end : step_of at n last bytes ≡ End → (runs : List Run) → accepted number [] ≡ accepted number₁ runs → Rest number n last bytes number₁ runs
+  rest_end : step_of at n last bytes ≡ Ok None → (runs : List Run) → accepted number [] ≡ accepted number₁ runs → Rest number n last bytes number₁ runs
   unfolding runs_bytes
   rest_end e runs a =
       let t = ended at n last bytes (record_of bytes) e in
@@ -124,9 +123,9 @@ module _ (number : ℕ) (at n last : ℕ) (bytes : List ℕ) (h : Bytes bytes) (
   rest_step : (later : Run → Parsed) (runs : List Run)
       → ((r : Run) (qs : List Run) → n < 32 → later r ≡ accepted number₁ qs → Rest number (suc n) r.number (drop 19 bytes) number₁ qs)
       → (t : Step) → step_of at n last bytes ≡ t → proceed number later t ≡ accepted number₁ runs → Rest number n last bytes number₁ runs
-  rest_step later runs f (Next r) e a = rest_run r e (later r) runs a (f r)
-  rest_step later runs f End e a = rest_end e runs a
-  rest_step later runs f (Refuse x) e a = absurd (refused_accepted x number₁ runs a)
+  rest_step later runs f (Ok (Some r)) e a = rest_run r e (later r) runs a (f r)
+  rest_step later runs f (Ok None) e a = rest_end e runs a
+  rest_step later runs f (Err x) e a = absurd (refused_accepted x number₁ runs a)
 
 -- the same for the whole of what is left to read
 rest_from_lem : (records number at n last : ℕ) (bytes : List ℕ) (number₁ : ℕ) (runs : List Run) → Bytes bytes → n ≤ 32

@@ -8,7 +8,7 @@ use lib.ListN.{length, get_or, set, replicate, length-append, length-map, get_or
 use lib.Seq.{set_at, append_snoc, get_or-append-add}
 use Rattle.job.specs.declared.Run.{Run}
 use Rattle.job.specs.declared.Job.{Job}
-use Rattle.job.specs.Reading.{column, job_of}
+use Rattle.job.specs.Reading.{column, job_of, with_run}
 use Rattle.job.specs.Written.{no_run}
 
 -- every entry of a list of zeros, and past its end, is 0
@@ -55,31 +55,16 @@ module _ (f : Run → ℕ) where
       ∙ stored (map f runs) (length runs) (32 - suc (length runs)) (f r) (length-map runs f)
       ∙ ap₂ (λ l m. l ++ replicate m 0) (sym (map-append f runs (r ∷ []))) (counted runs r)
 
--- the job with a run stored at n, behind the others
-abbrev pub with_run : Job → ℕ → Run → Job
-with_run j n r =
-    record {
-      number = j.number;
-      count = n + 1;
-      numbers = set j.numbers n r.number;
-      x1 = set j.x1 n r.x1;
-      y1 = set j.y1 n r.y1;
-      x2 = set j.x2 n r.x2;
-      y2 = set j.y2 n r.y2;
-    }
-
 -- it is the job with one more run
-pub job_more : (j : Job) (number n : ℕ) (runs : List Run) (r : Run) → j ≡ job_of number runs → length runs ≡ n → n < 32
-    → with_run j n r ≡ job_of number (runs ++ (r ∷ []))
-job_more j number n runs r e p h =
+pub job_more : (j : Job) (runs : List Run) (r : Run) → j ≡ job_of j.number runs → length runs ≡ j.count → j.count < 32
+    → with_run j r ≡ job_of j.number (runs ++ (r ∷ []))
+job_more j runs r e p h =
     let k : length runs < 32 = omega arith in
-    ap₂ (λ i m. with_run i m r) e (sym p)
+    ap (λ i. with_run i r) e
     ∙ (λ i. record {
-      number = number;
+      number = j.number;
       count = sym (length-append runs (r ∷ [])) i;
       numbers = column_more (λ q. q.number) runs r k i;
-      x1 = column_more (λ q. q.x1) runs r k i;
-      y1 = column_more (λ q. q.y1) runs r k i;
-      x2 = column_more (λ q. q.x2) runs r k i;
-      y2 = column_more (λ q. q.y2) runs r k i;
+      x = record { first = column_more (λ q. q.x1) runs r k i; second = column_more (λ q. q.x2) runs r k i };
+      y = record { first = column_more (λ q. q.y1) runs r k i; second = column_more (λ q. q.y2) runs r k i };
     })

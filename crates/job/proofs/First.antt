@@ -13,13 +13,12 @@ use Rattle.job.specs.declared.Record.{Record}
 use Rattle.job.specs.declared.Record.TheVariants as rec
 use Rattle.refusal.specs.declared.Refusal.{Refusal}
 use Rattle.refusal.specs.declared.Refusal.TheVariants.{Cut, UnknownKind, Misplaced}
-use Rattle.job.specs.declared.Step.{Step}
-use Rattle.job.specs.declared.Step.TheVariants.{Next, End, Refuse}
+use Rattle.std.specs.Prelude.{Some, None, Ok, Err}
 use Rattle.refusal.specs.Refusal.{refusal_place}
 use Rattle.job.specs.Applies.{Kind, head, run, end, byte_of, Whole, Behind, AppliesIn, cut_inside, cut_before_end, unknown_kind, no_head, second_head, after_end, wrong_count, number_zero, number_above, not_rising, out_of_range, run_33, coincident}
 use Rattle.job.specs.Order.{turn_of, Sooner, by_stage, by_place, by_turn, FirstOf}
 use Rattle.job.specs.Records.{record_of}
-use Rattle.job.specs.Parse.{Parsed, accepted, refused, step_of, with_first, proceed, read_from, first_by, parse}
+use Rattle.job.specs.Parse.{Step, Parsed, accepted, refused, step_of, with_first, proceed, read_from, first_by, parse}
 use Rattle.job.proofs.Decoded.{CutAt, inside, before_end, UnknownAt}
 use Rattle.job.proofs.There.{There, there, behind_within}
 use Rattle.job.proofs.Located.{one_stage, in_order, Passed}
@@ -41,9 +40,9 @@ with_first_said s r (refused x) a = a
 -- what a step makes of the later records
 proceed_said : (s : List ℕ) (number n p : ℕ) (later : Run → Parsed) → ((r : Run) → Passed s (suc n) (p + 19) r.number → Said s (later r))
     → (t : Step) → Told s n p t → Said s (proceed number later t)
-proceed_said s number n p later f (Next r) a = with_first_said s r (later r) (f r a)
-proceed_said s number n p later f End a = a
-proceed_said s number n p later f (Refuse x) a = a
+proceed_said s number n p later f (Ok (Some r)) a = with_first_said s r (later r) (f r a)
+proceed_said s number n p later f (Ok None) a = a
+proceed_said s number n p later f (Err x) a = a
 
 -- the reading from the record behind n runs on
 read_said : (records : ℕ) (s : List ℕ) (number n p last : ℕ) → records + n ≡ 33 → Passed s n p last → Said s (read_from records number p n last (drop p s))

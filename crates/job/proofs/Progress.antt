@@ -9,15 +9,16 @@ use lib.ListN.{length, drop, length-append, length-drop}
 use lib.Seq.{drop-drop}
 use Rattle.job.specs.declared.Run.{Run}
 use Rattle.job.specs.declared.Job.{Job}
-use Rattle.job.specs.declared.Answer.TheVariants.{Accepted, Refused}
 use Rattle.refusal.specs.declared.Refusal.{Refusal}
+use Rattle.refusal.specs.declared.Refusal.TheVariants.{Cut, UnknownKind, Misplaced}
+use Rattle.job.specs.declared.Record.{Record}
 use Rattle.job.specs.declared.Record.TheVariants as rec
-use Rattle.job.specs.declared.Step.TheVariants.{Next, End, Refuse}
+use Rattle.std.specs.Prelude.{Some, None, Ok, Err}
 use Rattle.job.specs.Records.{record_of}
 use Rattle.job.specs.Parse.{Parsed, accepted, refused, step_of, with_first, proceed, read_from, first_by, parse}
-use Rattle.job.specs.Reading.{job_of, number_said, place_said, runs_before, Blank, ReadsInto}
+use Rattle.job.specs.Reading.{answer_said, head_number, job_of, with_run, runs_before, Blank, ReadsInto}
 use Rattle.job.proofs.Decoded.{record_says}
-use Rattle.job.proofs.Columns.{with_run, job_more}
+use Rattle.job.proofs.Columns.{job_more}
 use Rattle.job.proofs.Steps.{taken}
 
 -- those are n runs
@@ -47,83 +48,77 @@ with_accepted [] number = refl
 with_accepted (r ∷ runs) number = ap (with_first r) (with_accepted runs number)
 
 -- what holds when the loop looks at a record
-pub record SoFar (s : List ℕ) (number : ℕ) (found : Job) (at n last : ℕ) : Type 0 where
-  pub most : n ≤ 32
-  pub place : at ≡ 5 + 19 * n
+pub record SoFar (s : List ℕ) (found : Job) (at last : ℕ) : Type 0 where
+  pub most : found.count ≤ 32
+  pub place : at ≡ 5 + 19 * found.count
   pub within : at ≤ length s
-  pub runs : found ≡ job_of number (runs_before s n)
-  pub rest : with_all (runs_before s n) (read_from (33 - n) number at n last (drop at s)) ≡ parse s
+  pub runs : found ≡ job_of found.number (runs_before s found.count)
+  pub rest : with_all (runs_before s found.count) (read_from (33 - found.count) found.number at found.count last (drop at s)) ≡ parse s
 
 -- a refusal, with the runs before it in the arrays
-refuses : (s : List ℕ) (x : Refusal) (number n : ℕ) (found : Job) → refused x ≡ parse s → found ≡ job_of number (runs_before s n)
-    → ReadsInto s (record { answer = Refused x; number = number; count = n }) found
-refuses s x number n found e h =
-    record {
-      number = ap number_said e;
-      place = ap place_said e;
-      held = h;
-      whole = λ a. absurd (let z : ◌≡◌ {A = ℕ} 0 1 = cc a in omega arith);
-    }
+refuses : (s : List ℕ) (x : Refusal) (found : Job) → refused x ≡ parse s → found ≡ job_of found.number (runs_before s found.count) → ReadsInto s (Err x) found
+refuses s x found e h =
+    record { answer = ap answer_said e; held = h; whole = λ a. absurd (let z : ◌≡◌ {A = ℕ} 0 1 = cc a in omega arith) }
 
-module _ (numbers x1 y1 x2 y2 : List ℕ) (blank : Blank numbers x1 y1 x2 y2) where
-  -- arrays of zeros hold no run
-  blank_none : (number : ℕ)
-      → ◌≡◌ {A = Job} (record { number = number; count = 0; numbers = numbers; x1 = x1; y1 = y1; x2 = x2; y2 = y2 }) (job_of number [])
-  blank_none number =
-      λ i. record {
-        number = number;
-        count = 0;
-        numbers = blank.0 i;
-        x1 = blank.1 i;
-        y1 = blank.2 i;
-        x2 = blank.3 i;
-        y2 = blank.4 i;
-      }
+-- a first record that is no head
+pub first_refused : (s : List ℕ) (x : Refusal) (found : Job) → Blank found → head_number (record_of s) ≡ Err x → ReadsInto s (Err x) found
+unfolding parse first_by runs_before
+first_refused s x found blank e = rw blank (refuses s x (job_of 0 []) (go (record_of s) e) refl)
+  where
+    go : (g : Record) → head_number g ≡ Err x → refused x ≡ first_by g (drop 5 s)
+    go rec.Unknown e = let same : x ≡ UnknownKind 0 = cc e in ap refused same
+    go rec.Cut e = let same : x ≡ Cut 0 = cc e in ap refused same
+    go (rec.Head number) e = absurd (let z : ◌≡◌ {A = ℕ} 0 1 = cc e in omega arith)
+    go (rec.Run r) e = let same : x ≡ Misplaced 0 = cc e in ap refused same
+    go (rec.End count) e = let same : x ≡ Misplaced 0 = cc e in ap refused same
 
-  -- a first record that is no head
-  pub first_refused : (s : List ℕ) (x : Refusal) → refused x ≡ first_by (record_of s) (drop 5 s)
-      → ReadsInto s (record { answer = Refused x; number = 0; count = 0 })
-      (record { number = 0; count = 0; numbers = numbers; x1 = x1; y1 = y1; x2 = x2; y2 = y2 })
-  unfolding parse runs_before
-  first_refused s x e = refuses s x 0 0 _ e (blank_none 0)
+-- a record whose number is that of a head is a head
+is_head : (g : Record) (number : ℕ) → head_number g ≡ Ok number → g ≡ rec.Head number
+is_head rec.Unknown number e = absurd (let z : ◌≡◌ {A = ℕ} 0 1 = cc e in omega arith)
+is_head rec.Cut number e = absurd (let z : ◌≡◌ {A = ℕ} 0 1 = cc e in omega arith)
+is_head (rec.Head k) number e = cc e
+is_head (rec.Run r) number e = absurd (let z : ◌≡◌ {A = ℕ} 0 1 = cc e in omega arith)
+is_head (rec.End count) number e = absurd (let z : ◌≡◌ {A = ℕ} 0 1 = cc e in omega arith)
 
-  -- after the head
-  pub so_far_none : (s : List ℕ) (number : ℕ) → record_of s ≡ rec.Head number
-      → SoFar s number (record { number = number; count = 0; numbers = numbers; x1 = x1; y1 = y1; x2 = x2; y2 = y2 }) 5 0 0
-  unfolding parse first_by runs_before
-  so_far_none s number e =
-      let says = rw e at (record_says s) in
-      record {
-        most = omega arith;
-        place = refl;
-        within = omega (arith, says.1, length-drop 1 s);
-        runs = blank_none number;
-        rest = rw e;
-      }
+-- after the head
+pub so_far_none : (s : List ℕ) (number : ℕ) (found : Job) → Blank found → head_number (record_of s) ≡ Ok number → SoFar s (record found { number = number }) 5 0
+unfolding parse first_by runs_before
+so_far_none s number found blank h =
+    let e = is_head (record_of s) number h in
+    let says = rw e at (record_says s) in
+    rw blank
+    (record {
+      most = omega arith;
+      place = refl;
+      within = omega (arith, says.1, length-drop 1 s);
+      runs = refl;
+      rest = rw e;
+    })
 
-module _ (s : List ℕ) (number : ℕ) (found : Job) (at n last : ℕ) (h : SoFar s number found at n last) where
+module _ (s : List ℕ) (found : Job) (at last : ℕ) (h : SoFar s found at last) where
   -- the runs so far, in front of what the record at hand says, are the whole answer
-  step_whole : with_all (runs_before s n)
-      (proceed number (λ r. read_from (33 - suc n) number (at + 19) (suc n) r.number (drop 19 (drop at s))) (step_of at n last (drop at s))) ≡ parse s
+  step_whole : with_all (runs_before s found.count)
+      (proceed found.number (λ r. read_from (33 - suc found.count) found.number (at + 19) (suc found.count) r.number (drop 19 (drop at s))) (step_of at found.count last (drop at s)))
+      ≡ parse s
   unfolding read_from
-  step_whole = let p : 33 - n ≡ suc (33 - suc n) = omega (arith, h.most) in rw p at h.rest
+  step_whole = let p : 33 - found.count ≡ suc (33 - suc found.count) = omega (arith, h.most) in rw p at h.rest
 
   -- the run at hand is the next of the first runs
-  before_more : (r : Run) → record_of (drop at s) ≡ rec.Run r → runs_before s (suc n) ≡ runs_before s n ++ (r ∷ [])
+  before_more : (r : Run) → record_of (drop at s) ≡ rec.Run r → runs_before s (suc found.count) ≡ runs_before s found.count ++ (r ∷ [])
   unfolding runs_before
   before_more r e = rw (← h.place, e)
 
   -- there is room for one more run
-  pub so_far_room : (r : Run) → step_of at n last (drop at s) ≡ Next r → n < 32
-  so_far_room r e = (taken at n last (drop at s) (record_of (drop at s)) r e).below
+  pub so_far_room : (r : Run) → step_of at found.count last (drop at s) ≡ Ok (Some r) → found.count < 32
+  so_far_room r e = (taken at found.count last (drop at s) (record_of (drop at s)) r e).below
 
   -- after one more run
-  pub so_far_more : (r : Run) → step_of at n last (drop at s) ≡ Next r → SoFar s number (with_run found n r) (at + 19) (n + 1) r.number
+  pub so_far_more : (r : Run) → step_of at found.count last (drop at s) ≡ Ok (Some r) → SoFar s (with_run found r) (at + 19) r.number
   so_far_more r e =
-      let t = taken at n last (drop at s) (record_of (drop at s)) r e in
+      let t = taken at found.count last (drop at s) (record_of (drop at s)) r e in
       let says = rw t.is at (record_says (drop at s)) in
       let more = before_more r t.is in
-      let added = job_more found number n (runs_before s n) r h.runs (length_before s n) t.below in
+      let added = job_more found (runs_before s found.count) r h.runs (length_before s found.count) t.below in
       rw add-one
       (record {
         most = t.below;
@@ -134,11 +129,11 @@ module _ (s : List ℕ) (number : ℕ) (found : Job) (at n last : ℕ) (h : SoFa
       })
 
   -- at the end
-  pub so_far_end : step_of at n last (drop at s) ≡ End → ReadsInto s (record { answer = Accepted; number = number; count = n }) found
+  pub so_far_end : step_of at found.count last (drop at s) ≡ Ok None → ReadsInto s (Ok tt) found
   so_far_end e =
-      let whole = sym (with_accepted (runs_before s n) number) ∙ (rw e at step_whole) in
-      record { number = ap number_said whole; place = ap place_said whole; held = h.runs; whole = λ _. sym whole }
+      let whole = sym (with_accepted (runs_before s found.count) found.number) ∙ (rw e at step_whole) in
+      record { answer = ap answer_said whole; held = h.runs; whole = λ _. sym whole }
 
   -- at a refusal
-  pub so_far_refused : (x : Refusal) → step_of at n last (drop at s) ≡ Refuse x → ReadsInto s (record { answer = Refused x; number = number; count = n }) found
-  so_far_refused x e = refuses s x number n found (sym (with_refused (runs_before s n) x) ∙ (rw e at step_whole)) h.runs
+  pub so_far_refused : (x : Refusal) → step_of at found.count last (drop at s) ≡ Err x → ReadsInto s (Err x) found
+  so_far_refused x e = refuses s x found (sym (with_refused (runs_before s found.count) x) ∙ (rw e at step_whole)) h.runs

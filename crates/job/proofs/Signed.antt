@@ -22,10 +22,10 @@ pub biased_of_word : (c : ℕ) → c ≤ 2000000 → biased_of (word_of c) ≡ c
 biased_of_word c h = omega arith
 
 -- the signed reading of a word below 2^31, and from 2^31 on
-pub low : (w : ℕ) → w < 2147483648 → to_z w32 w ≡ pos w
+low : (w : ℕ) → w < 2147483648 → to_z w32 w ≡ pos w
 low w h = simp (lt-ltb w 2147483648 h)
 
-pub high : (w : ℕ) → 2147483648 ≤ w → to_z w32 w ≡ negsuc (4294967296 - suc w)
+high : (w : ℕ) → 2147483648 ≤ w → to_z w32 w ≡ negsuc (4294967296 - suc w)
 high w h = simp (le-ltb w 2147483648 h)
 
 -- either half of the words

@@ -12,8 +12,8 @@ use Rattle.job.specs.declared.Run.{Run}
 use Rattle.job.specs.declared.Record.{Record}
 use Rattle.job.specs.declared.Record.TheVariants as rec
 use Rattle.refusal.specs.declared.Refusal.{Refusal}
-use Rattle.job.specs.declared.Step.TheVariants.{Next, End, Refuse}
-use Rattle.job.specs.Parse.{follows, coordinates_in, coincide, run_step, end_step, step_by}
+use Rattle.std.specs.Prelude.{Some, None, Ok, Err}
+use Rattle.job.specs.Parse.{Step, follows, coordinates_in, coincide, run_step, end_step, step_by}
 use Rattle.job.specs.Written.{InRange, Coincide}
 
 -- what a test comes to, where it does not come to its first side: it failed, and this is its second
@@ -22,10 +22,10 @@ passed true x y v e never = absurd (never e)
 passed false x y v e never = (refl, e)
 
 -- the three kinds of step differ
-refuse_next : (x : Refusal) (r : Run) → Refuse x ≡ Next r → ⊥
+refuse_next : (x : Refusal) (r : Run) → ◌≡◌ {A = Step} (Err x) (Ok (Some r)) → ⊥
 refuse_next x r e = let z : ◌≡◌ {A = ℕ} 0 1 = cc in omega arith
 
-refuse_end : (x : Refusal) → Refuse x ≡ End → ⊥
+refuse_end : (x : Refusal) → ◌≡◌ {A = Step} (Err x) (Ok None) → ⊥
 refuse_end x e = let z : ◌≡◌ {A = ℕ} 0 1 = cc in omega arith
 
 -- a run number from 1 to 9,999, above the last
@@ -90,7 +90,7 @@ pub record Taken (n last : ℕ) (g : Record) (r : Run) : Type 0 where
   pub apart : Coincide r → ⊥
 
 -- a run record that is taken passes the tests of `run_step`
-taken_run : (at n last : ℕ) (q r : Run) → run_step at n last q ≡ Next r → Taken n last (rec.Run q) r
+taken_run : (at n last : ℕ) (q r : Run) → run_step at n last q ≡ Ok (Some r) → Taken n last (rec.Run q) r
 unfolding run_step
 taken_run at n last q r e =
     let a = passed (leb 32 n) _ _ _ e (refuse_next _ r) in
@@ -114,7 +114,7 @@ pub record Ended (n : ℕ) (bytes : List ℕ) (g : Record) : Type 0 where
   pub last : length bytes ≤ 3
 
 -- an end record that ends the job passes the tests of `end_step`
-ended_end : (at n count : ℕ) (bytes : List ℕ) → end_step at n count bytes ≡ End → Ended n bytes (rec.End count)
+ended_end : (at n count : ℕ) (bytes : List ℕ) → end_step at n count bytes ≡ Ok None → Ended n bytes (rec.End count)
 unfolding end_step
 ended_end at n count bytes e =
     let a = passed (not (eqb count n)) _ _ _ e (refuse_end _) in
@@ -122,11 +122,11 @@ ended_end at n count bytes e =
     record { is = ap rec.End (eqb-true count n (not-false _ a.0)); last = ltb-false _ _ b.0 }
 
 -- a run is no end
-next_end : (r : Run) → Next r ≡ End → ⊥
+next_end : (r : Run) → ◌≡◌ {A = Step} (Ok (Some r)) (Ok None) → ⊥
 next_end r e = let z : ◌≡◌ {A = ℕ} 0 1 = cc in omega arith
 
 -- a run record does not end the job, and an end record is no run
-run_end : (at n last : ℕ) (q : Run) → run_step at n last q ≡ End → ⊥
+run_end : (at n last : ℕ) (q : Run) → run_step at n last q ≡ Ok None → ⊥
 unfolding run_step
 run_end at n last q e =
     let a = passed (leb 32 n) _ _ _ e (refuse_end _) in
@@ -134,14 +134,14 @@ run_end at n last q e =
     let c = passed (not (coordinates_in q)) _ _ _ b.1 (refuse_end _) in
     next_end q (passed (coincide q) _ _ _ c.1 (refuse_end _)).1
 
-end_next : (at n count : ℕ) (bytes : List ℕ) (r : Run) → end_step at n count bytes ≡ Next r → ⊥
+end_next : (at n count : ℕ) (bytes : List ℕ) (r : Run) → end_step at n count bytes ≡ Ok (Some r) → ⊥
 unfolding end_step
 end_next at n count bytes r e =
     let a = passed (not (eqb count n)) _ _ _ e (refuse_next _ r) in
     next_end r (sym (passed (ltb 3 (length bytes)) _ _ _ a.1 (refuse_next _ r)).1)
 
 -- one more run is a run record that passes the tests 9, 7, 8 and 17
-pub taken : (at n last : ℕ) (bytes : List ℕ) (g : Record) (r : Run) → step_by at n last bytes g ≡ Next r → Taken n last g r
+pub taken : (at n last : ℕ) (bytes : List ℕ) (g : Record) (r : Run) → step_by at n last bytes g ≡ Ok (Some r) → Taken n last g r
 unfolding step_by
 taken at n last bytes rec.Unknown r e = absurd (refuse_next _ r e)
 taken at n last bytes rec.Cut r e = absurd (refuse_next _ r e)
@@ -150,7 +150,7 @@ taken at n last bytes (rec.Run q) r e = taken_run at n last q r e
 taken at n last bytes (rec.End count) r e = absurd (end_next at n count bytes r e)
 
 -- the end is an end record that passes the tests 6 and 5
-pub ended : (at n last : ℕ) (bytes : List ℕ) (g : Record) → step_by at n last bytes g ≡ End → Ended n bytes g
+pub ended : (at n last : ℕ) (bytes : List ℕ) (g : Record) → step_by at n last bytes g ≡ Ok None → Ended n bytes g
 unfolding step_by
 ended at n last bytes rec.Unknown e = absurd (refuse_end _ e)
 ended at n last bytes rec.Cut e = absurd (refuse_end _ e)

@@ -14,11 +14,10 @@ use Rattle.job.specs.declared.Record.{Record}
 use Rattle.job.specs.declared.Record.TheVariants as rec
 use Rattle.refusal.specs.declared.Refusal.{Refusal}
 use Rattle.refusal.specs.declared.Refusal.TheVariants.{Cut, UnknownKind, Misplaced, WrongCount, WrongNumber, OutOfRange, TooManyRuns, Coincident}
-use Rattle.job.specs.declared.Step.{Step}
-use Rattle.job.specs.declared.Step.TheVariants.{Next, End, Refuse}
+use Rattle.std.specs.Prelude.{Some, None, Ok, Err}
 use Rattle.job.specs.Applies.{Kind, head, run, end, Whole, place, number_at, coordinate_at, AppliesIn, after_end}
 use Rattle.job.specs.Order.{turn_of, Sooner, FirstOf}
-use Rattle.job.specs.Parse.{follows, coordinates_in, coincide, run_step, end_step, step_by}
+use Rattle.job.specs.Parse.{Step, follows, coordinates_in, coincide, run_step, end_step, step_by}
 use Rattle.job.specs.Written.{Coincide}
 use Rattle.job.proofs.Decoded.{by_test, CutAt, UnknownAt}
 use Rattle.job.proofs.Steps.{Follows, follows_true, Coordinates, coordinates_true, coincide_true, coincide_false}
@@ -95,9 +94,9 @@ module _ (s : List ℕ) (p : ℕ) where
 
 -- what a step says: one more run is passed, nothing applies, or the first that applies
 abbrev pub Told : List ℕ → (n p : ℕ) → Step → Type 0
-Told s n p (Next r) = Passed s (suc n) (p + 19) r.number
-Told s n p End = (x : Refusal) → AppliesIn s x → ⊥
-Told s n p (Refuse x) = FirstOf (AppliesIn s) x
+Told s n p (Ok (Some r)) = Passed s (suc n) (p + 19) r.number
+Told s n p (Ok None) = (x : Refusal) → AppliesIn s x → ⊥
+Told s n p (Err x) = FirstOf (AppliesIn s) x
 
 -- what is wrong with a record, by its turn: 4, or 3, or a later one
 pub data Sorted (s : List ℕ) (p : ℕ) (x : Refusal) : Type 0 where

@@ -9,7 +9,7 @@ use borrow.Author.Tests.{lt-ltb, le-ltb, le-leb, lt-leb, eq-eqb}
 use lib.ListN.{length, drop}
 use Rattle.job.specs.declared.Run.{Run}
 use Rattle.job.specs.declared.Record.TheVariants as rec
-use Rattle.job.specs.declared.Step.TheVariants.{Next, End}
+use Rattle.std.specs.Prelude.{Some, None, Ok}
 use Rattle.job.specs.Fields.{word4, biased_of, word_of}
 use Rattle.job.specs.Records.{decoded, record_of}
 use Rattle.job.specs.Parse.{accepted, run_step, end_step, step_by, step_of, with_first, proceed, read_from, first_by, parse}
@@ -48,7 +48,7 @@ unfolding record_of decoded
 end_back n h = ap rec.End (word2_bytes n h [])
 
 -- a run in range and between two points, with a number above the last and fewer than 32 before it, is taken
-run_taken : (at n last : ℕ) (r : Run) → n < 32 → last < r.number → InRange r → (Coincide r → ⊥) → run_step at n last r ≡ Next r
+run_taken : (at n last : ℕ) (r : Run) → n < 32 → last < r.number → InRange r → (Coincide r → ⊥) → run_step at n last r ≡ Ok (Some r)
 unfolding run_step
 run_taken at n last r below up h apart =
     simp (
@@ -64,17 +64,17 @@ run_taken at n last r below up h apart =
     )
 
 -- an end with the count of the runs before it, and no byte after it, is reached
-end_reached : (at n : ℕ) (bytes : List ℕ) → length bytes ≤ 3 → end_step at n n bytes ≡ End
+end_reached : (at n : ℕ) (bytes : List ℕ) → length bytes ≤ 3 → end_step at n n bytes ≡ Ok None
 unfolding end_step
 end_reached at n bytes last = simp (eq-eqb n n refl, le-ltb 3 (length bytes) last)
 
 -- a written run is taken
-step_taken : (at n last : ℕ) (r : Run) (rest : List ℕ) → n < 32 → last < r.number → InRange r → (Coincide r → ⊥) → step_of at n last (run_bytes r ++ rest) ≡ Next r
+step_taken : (at n last : ℕ) (r : Run) (rest : List ℕ) → n < 32 → last < r.number → InRange r → (Coincide r → ⊥) → step_of at n last (run_bytes r ++ rest) ≡ Ok (Some r)
 unfolding step_by
 step_taken at n last r rest below up h apart = ap (step_by at n last (run_bytes r ++ rest)) (run_back r h rest) ∙ run_taken at n last r below up h apart
 
 -- a written end is reached
-step_reached : (at n last : ℕ) → n ≤ 32 → step_of at n last (0x5A ∷ bytes2 n) ≡ End
+step_reached : (at n last : ℕ) → n ≤ 32 → step_of at n last (0x5A ∷ bytes2 n) ≡ Ok None
 unfolding step_by
 step_reached at n last most =
     ap (step_by at n last (0x5A ∷ bytes2 n)) (end_back n (omega arith)) ∙ end_reached at n (0x5A ∷ bytes2 n) (omega arith)

@@ -7,5 +7,4 @@ pub mod Order
 pub mod Records
 pub mod Parse
 -- what the reader's contracts speak of besides
-pub mod Branches
 pub mod Reading

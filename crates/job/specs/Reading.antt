@@ -1,28 +1,26 @@
--- What the reader's contracts speak of; nothing that a demand mentions. Reading answers with document 01's number and place, and hands the job
--- on as arrays of 32 entries, one array for each field of a run.
+-- What the reader's contracts speak of; nothing that a demand mentions. Reading gives the refusal, or the job as arrays of 32 entries, one array for
+-- each field of a run.
 -- Assumes nothing.
-use Rattle.std.specs.Prelude.{ℕ, zero, suc, ◌+◌, ◌-◌, ◌*◌, ◌≡◌, List, [], ◌∷◌, map, ◌++◌, length, drop, replicate}
-use Rattle.refusal.specs.Refusal.{refusal_number, refusal_place}
+use Rattle.std.specs.Prelude.{Result, Ok, Err, ℕ, zero, suc, ◌+◌, ◌-◌, ◌*◌, ◌≡◌, List, [], ◌∷◌, map, ◌++◌, length, drop, replicate, set}
+use Rattle.refusal.specs.Refusal.{refusal_place}
 use Rattle.job.specs.Written.{no_run}
 use Rattle.job.specs.Records.{record_of}
 use Rattle.job.specs.Parse.{Parsed, accepted, refused, parse}
 use Rattle.job.specs.declared.Run.{Run}
 use Rattle.job.specs.declared.Job.{Job}
-use Rattle.job.specs.declared.Answer.{Answer}
-use Rattle.job.specs.declared.Answer.TheVariants.{Accepted, Refused}
-use Rattle.job.specs.declared.Found.{Found}
-use Rattle.job.specs.declared.Reading.{Reading}
+use Rattle.refusal.specs.declared.Refusal.{Refusal}
+use Rattle.refusal.specs.declared.Refusal.TheVariants.{Cut, UnknownKind, Misplaced}
 use Rattle.job.specs.declared.Record.{Record}
 use Rattle.job.specs.declared.Record.TheVariants as rec
 
--- Document 01's number and place of an answer, by its cases: those of its refusal, and 0 and 0 where the job is accepted.
-abbrev pub answer_number : Answer → ℕ
-answer_number Accepted = 0
-answer_number (Refused x) = refusal_number x
+-- what a call says of a job: it is accepted, or the refusal
+abbrev pub Answer : Type 0
+Answer = Result (Unit {0}) Refusal
 
+-- Document 01's place of an answer, by its cases: that of its refusal, and 0 where the job is accepted.
 abbrev pub answer_place : Answer → ℕ
-answer_place Accepted = 0
-answer_place (Refused x) = refusal_place x
+answer_place (Ok _) = 0
+answer_place (Err x) = refusal_place x
 
 -- a field of every run, and 0 after the last
 abbrev pub column : (Run → ℕ) → List Run → List ℕ
@@ -35,30 +33,47 @@ job_of number runs =
       number = number;
       count = length runs;
       numbers = column (λ r. r.number) runs;
-      x1 = column (λ r. r.x1) runs;
-      y1 = column (λ r. r.y1) runs;
-      x2 = column (λ r. r.x2) runs;
-      y2 = column (λ r. r.y2) runs;
+      x = record { first = column (λ r. r.x1) runs; second = column (λ r. r.x2) runs };
+      y = record { first = column (λ r. r.y1) runs; second = column (λ r. r.y2) runs };
     }
 
--- what the bytes say: the number and the place, 0 and 0 where they are accepted, and the job, for a refusal that of number 0 with no run
-abbrev pub number_said : Parsed → ℕ
-number_said (accepted number runs) = 0
-number_said (refused x) = refusal_number x
+-- the job with a run stored behind the others
+abbrev pub with_run : Job → Run → Job
+with_run j r =
+    record {
+      number = j.number;
+      count = j.count + 1;
+      numbers = set j.numbers j.count r.number;
+      x = record { first = set j.x.first j.count r.x1; second = set j.x.second j.count r.x2 };
+      y = record { first = set j.y.first j.count r.y1; second = set j.y.second j.count r.y2 };
+    }
 
+-- the place that the bytes say, 0 where they are accepted
 abbrev pub place_said : Parsed → ℕ
 place_said (accepted number runs) = 0
 place_said (refused x) = refusal_place x
 
-abbrev pub job_said : Parsed → Job
-job_said (accepted number runs) = job_of number runs
-job_said (refused x) = job_of 0 []
+-- the job, or the refusal, that the bytes say
+abbrev pub job_said : Parsed → Result Job Refusal
+job_said (accepted number runs) = Ok (job_of number runs)
+job_said (refused x) = Err x
 
--- reading answers with the number, the place and the job that the bytes say
-pub record Reads (s : List ℕ) (r : Reading) : Type 0 where
-  pub number : answer_number r.answer ≡ number_said (parse s)
-  pub place : answer_place r.answer ≡ place_said (parse s)
-  pub job : r.job ≡ job_said (parse s)
+-- reading gives the job that the bytes say, or the refusal
+abbrev pub Reads : List ℕ → Result Job Refusal → Type 0
+Reads s r = r ≡ job_said (parse s)
+
+-- whether they are accepted, or the refusal
+abbrev pub answer_said : Parsed → Answer
+answer_said (accepted number runs) = Ok tt
+answer_said (refused x) = Err x
+
+-- the number in a head, or the refusal of a first record that is none
+abbrev pub head_number : Record → Result ℕ Refusal
+head_number rec.Unknown = Err (UnknownKind 0)
+head_number rec.Cut = Err (Cut 0)
+head_number (rec.Head number) = Ok number
+head_number (rec.Run r) = Err (Misplaced 0)
+head_number (rec.End count) = Err (Misplaced 0)
 
 -- the run in a record
 abbrev run_in : Record → Run
@@ -73,14 +88,12 @@ unfoldable pub runs_before : List ℕ → ℕ → List Run
 runs_before s zero = []
 runs_before s (suc n) = runs_before s n ++ (run_in (record_of (drop (5 + 19 * n) s)) ∷ [])
 
--- five arrays of zeros
-abbrev pub Blank : (numbers x1 y1 x2 y2 : List ℕ) → Type 0
-Blank numbers x1 y1 x2 y2 = (numbers ≡ replicate 32 0) × (x1 ≡ replicate 32 0) × (y1 ≡ replicate 32 0) × (x2 ≡ replicate 32 0) × (y2 ≡ replicate 32 0)
+-- the job has the number 0 and no run
+abbrev pub Blank : Job → Type 0
+Blank j = j ≡ job_of 0 []
 
--- Reading into arrays answers with the number and the place that the bytes say. The arrays hold the first runs and zeros after them; where the job is
--- accepted, those are all its runs.
-pub record ReadsInto (s : List ℕ) (r : Found) (j : Job) : Type 0 where
-  pub number : answer_number r.answer ≡ number_said (parse s)
-  pub place : answer_place r.answer ≡ place_said (parse s)
-  pub held : j ≡ job_of r.number (runs_before s r.count)
-  pub whole : r.answer ≡ Accepted → parse s ≡ accepted r.number (runs_before s r.count)
+-- Reading into a job answers as the bytes say. The job has its first runs and zeros after them; where it is accepted, those are all its runs.
+pub record ReadsInto (s : List ℕ) (r : Answer) (j : Job) : Type 0 where
+  pub answer : r ≡ answer_said (parse s)
+  pub held : j ≡ job_of j.number (runs_before s j.count)
+  pub whole : r ≡ Ok tt → parse s ≡ accepted j.number (runs_before s j.count)

@@ -1,14 +1,13 @@
 // Reads a job (document 01, "Job book"): one head, then the runs, then one end.
 #![tactic(auto)]
 
-ghost use Rattle.std.specs.Prelude.{◌≡◌, List, [], ℕ, ◌+◌, ◌<◌, ◌≤◌, length, drop};
+ghost use Rattle.std.specs.Prelude.{◌≡◌, [], ◌+◌, ◌<◌, ◌≤◌, length, drop};
 ghost use Rattle.std.specs.Int.{w32};
 ghost use Rattle.std.proofs.Common.{to_z};
 ghost use Rattle.job.specs.Fields.{word2, word4, biased_of};
 ghost use Rattle.job.specs.Records.{run_body, decoded, record_of};
-ghost use Rattle.job.specs.Branches.{NotRun, NotHead};
-ghost use Rattle.job.specs.Parse.{follows, coordinates_in, coincide, run_step, end_step, step_by, step_of, refused, first_by};
-ghost use Rattle.job.specs.Reading.{answer_place, job_of, Blank, ReadsInto, Reads};
+ghost use Rattle.job.specs.Parse.{follows, coordinates_in, coincide, run_step, end_step, step_of};
+ghost use Rattle.job.specs.Reading.{answer_place, head_number, job_of, with_run, Blank, ReadsInto, Reads};
 
 use refusal::Refusal;
 
@@ -22,38 +21,21 @@ pub struct Run {
     pub y2: u32,
 }
 
+// What runs have on one axis: the values of their first points and of their second. Run k stands at k in both arrays.
+#[derive(Clone, Copy)]
+pub struct Spans {
+    pub first: [u32; 32],
+    pub second: [u32; 32],
+}
+
 // A job: run k stands at k in each array, for k below count; the entries from count on are 0.
 #[derive(Clone, Copy)]
 pub struct Job {
     pub number: u32,
     pub count: usize,
     pub numbers: [u32; 32],
-    pub x1: [u32; 32],
-    pub y1: [u32; 32],
-    pub x2: [u32; 32],
-    pub y2: [u32; 32],
-}
-
-// What a call says of the job.
-#[derive(Clone, Copy)]
-pub enum Answer {
-    Accepted,
-    Refused(Refusal),
-}
-
-// What reading says. The job of a refusal has the number 0 and no run.
-#[derive(Clone, Copy)]
-pub struct Reading {
-    pub answer: Answer,
-    pub job: Job,
-}
-
-// What reading into arrays says: the answer, the job's number and how many runs stand in the arrays.
-#[derive(Clone, Copy)]
-pub struct Found {
-    pub answer: Answer,
-    pub number: u32,
-    pub count: usize,
+    pub x: Spans,
+    pub y: Spans,
 }
 
 // What stands at a place of the job.
@@ -66,26 +48,12 @@ pub enum Record {
     Cut,
 }
 
-// What a record after the head says: one more run, the end of the job, or a refusal.
-#[derive(Clone, Copy)]
-pub enum Step {
-    Next(Run),
-    End,
-    Refuse(Refusal),
-}
-
-fn wide(x: u8) -> u32
-    ensures { (result ≡ x) × (result < 256) }
-{
-    x as u32
-}
-
 // The two bytes from i on, little-endian.
 pub fn le16(b: &[u8], i: usize) -> u32
     requires { i + 1 < length b.now }
     ensures { result ≡ word2 b.now i }
 {
-    wide(b[i]) + 256 * wide(b[i + 1])
+    u32::from(u16::from_le_bytes([b[i], b[i + 1]]))
 }
 
 // The four bytes from i on, little-endian.
@@ -93,24 +61,21 @@ pub fn le32(b: &[u8], i: usize) -> u32
     requires { i + 3 < length b.now }
     ensures { result ≡ word4 b.now i }
 {
-    wide(b[i]) + 256 * wide(b[i + 1]) + 65536 * wide(b[i + 2]) + 16777216 * wide(b[i + 3])
+    u32::from_le_bytes([b[i], b[i + 1], b[i + 2], b[i + 3]])
 }
 
 // A word, read as two's complement.
 pub fn signed_of(word: u32) -> i32
     ensures { result ≡ to_z w32 word }
 {
-    if word < 2147483648 {
-        return word as i32;
-    }
-    -1 - (4294967295 - word) as i32
+    word.cast_signed()
 }
 
 // A coordinate's word, read as two's complement, plus 1,000,000: above 2,000,000 where it lies outside its range.
 pub fn biased(word: u32) -> u32
     ensures { result ≡ biased_of word }
 {
-    ((word as u64 + 1000000) % 4294967296) as u32
+    word.wrapping_add(1000000)
 }
 
 // The run in a body.
@@ -128,28 +93,17 @@ fn run_of(body: &[u8]) -> Run
 }
 
 // The record of this kind whose body the bytes begin with.
+#[tactic(auto, unfolding(crate::specs::Records::decoded))]
 fn decode(kind: u8, body: &[u8]) -> Record
     ensures { result ≡ decoded kind body.now }
 {
-    if kind == 0x48 {
-        if body.len() < 4 {
-            return Record::Cut;
-        }
-        return Record::Head(le32(body, 0));
+    match kind {
+        0x48 if body.len() >= 4 => Record::Head(le32(body, 0)),
+        0x52 if body.len() >= 18 => Record::Run(run_of(body)),
+        0x5A if body.len() >= 2 => Record::End(le16(body, 0)),
+        0x48 | 0x52 | 0x5A => Record::Cut,
+        _ => Record::Unknown,
     }
-    if kind == 0x52 {
-        if body.len() < 18 {
-            return Record::Cut;
-        }
-        return Record::Run(run_of(body));
-    }
-    if kind == 0x5A {
-        if body.len() < 2 {
-            return Record::Cut;
-        }
-        return Record::End(le16(body, 0));
-    }
-    Record::Unknown
 }
 
 // The record at a place. Its body is handed on as the part of the job after the kind byte.
@@ -159,218 +113,160 @@ fn record_at(job: &[u8], at: usize) -> Record
     if at >= job.len() {
         return Record::Cut;
     }
-    let body = at + 1;
-    decode(job[at], &job[body..])
+    decode(job[at], &job[at + 1..])
 }
 
 // A run number is in its range and above the one before.
 fn number_follows(last: u32, number: u32) -> bool
     ensures { result ≡ follows last number }
 {
-    (1 <= number) & (number <= 9999) & (last < number)
+    (1..=9999).contains(&number) && last < number
 }
 
 // All four coordinates are in their range.
 fn coordinates_in(run: Run) -> bool
     ensures { result ≡ coordinates_in run }
 {
-    (run.x1 <= 2000000) & (run.y1 <= 2000000) & (run.x2 <= 2000000) & (run.y2 <= 2000000)
+    run.x1 <= 2000000 && run.y1 <= 2000000 && run.x2 <= 2000000 && run.y2 <= 2000000
 }
 
 // The two points of a run are one.
 pub fn coincide(run: Run) -> bool
     ensures { result ≡ coincide run }
 {
-    (run.x1 == run.x2) & (run.y1 == run.y2)
+    run.x1 == run.x2 && run.y1 == run.y2
 }
 
-// A run record at a place, after n runs of which the last has the number last.
-fn run_step(run: Run, at: usize, n: usize, last: u32) -> Step
+// A run record at a place, after n runs of which the last has the number last: one more run, or a refusal.
+#[tactic(auto, unfolding(crate::specs::Parse::run_step))]
+fn run_step(run: Run, at: usize, n: usize, last: u32) -> Result<Option<Run>, Refusal>
     ensures { result ≡ run_step at n last run }
 {
     if n >= 32 {
-        return Step::Refuse(Refusal::TooManyRuns(at));
+        return Err(Refusal::TooManyRuns(at));
     }
     if !number_follows(last, run.number) {
-        return Step::Refuse(Refusal::WrongNumber(at));
+        return Err(Refusal::WrongNumber(at));
     }
     if !coordinates_in(run) {
-        return Step::Refuse(Refusal::OutOfRange(at));
+        return Err(Refusal::OutOfRange(at));
     }
     if coincide(run) {
-        return Step::Refuse(Refusal::Coincident(at));
+        return Err(Refusal::Coincident(at));
     }
-    Step::Next(run)
+    Ok(Some(run))
 }
 
-// An end record at a place, after n runs.
-fn end_step(count: u32, job: &[u8], at: usize, n: usize) -> Step
+// An end record at a place, after n runs: no more run, or a refusal.
+#[tactic(auto, unfolding(crate::specs::Parse::end_step))]
+fn end_step(count: u32, job: &[u8], at: usize, n: usize) -> Result<Option<Run>, Refusal>
     requires { at ≤ length job.now }
     ensures { result ≡ end_step at n count (drop at job.now) }
 {
     if count as usize != n {
-        return Step::Refuse(Refusal::WrongCount(at));
+        return Err(Refusal::WrongCount(at));
     }
     if 3 < job.len() - at {
-        return Step::Refuse(Refusal::Misplaced(at + 3));
+        return Err(Refusal::Misplaced(at + 3));
     }
-    Step::End
+    Ok(None)
 }
 
-// A record that is no run: it ends the job or is refused.
-fn not_run(rec: Record, job: &[u8], at: usize, n: usize) -> Step
-    requires { (at ≤ length job.now) × NotRun rec }
-    ensures { (last : ℕ) → result ≡ step_by at n last (drop at job.now) rec }
-{
-    match rec {
-        Record::Unknown => Step::Refuse(Refusal::UnknownKind(at)),
-        Record::Cut => Step::Refuse(Refusal::Cut(at)),
-        Record::Head(_) => Step::Refuse(Refusal::Misplaced(at)),
-        Record::Run(_) => Step::Refuse(Refusal::Misplaced(at)),
-        Record::End(count) => end_step(count, job, at, n),
-    }
-}
-
-// The record at a place, after n runs of which the last has the number last.
-fn step_at(job: &[u8], at: usize, n: usize, last: u32) -> Step
+// The record at a place, after n runs of which the last has the number last: one more run, none at the end of the job, or a refusal.
+#[tactic(auto, unfolding(crate::specs::Parse::step_by))]
+fn step_at(job: &[u8], at: usize, n: usize, last: u32) -> Result<Option<Run>, Refusal>
     requires { at ≤ length job.now }
     ensures { result ≡ step_of at n last (drop at job.now) }
 {
-    let rec = record_at(job, at);
-    let Record::Run(run) = rec else {
-        return not_run(rec, job, at, n);
+    let record = record_at(job, at);
+    let Record::Run(run) = record else {
+        return match record {
+            Record::Unknown => Err(Refusal::UnknownKind(at)),
+            Record::Cut => Err(Refusal::Cut(at)),
+            Record::Run(_) => unreachable!(),
+            Record::Head(_) => Err(Refusal::Misplaced(at)),
+            Record::End(count) => end_step(count, job, at, n),
+        };
     };
     run_step(run, at, n, last)
 }
 
-// The refusal of a first record that is no head.
-fn not_head(rec: Record) -> Refusal
-    requires { NotHead rec }
-    ensures { (rest : List ℕ) → refused result ≡ first_by rec rest }
+// The number in a job's head, which is the first record.
+fn head_number(job: &[u8]) -> Result<u32, Refusal>
+    ensures { result ≡ head_number (record_of job.now) }
 {
-    match rec {
-        Record::Unknown => Refusal::UnknownKind(0),
-        Record::Cut => Refusal::Cut(0),
-        Record::Head(_) => Refusal::Misplaced(0),
-        Record::Run(_) => Refusal::Misplaced(0),
-        Record::End(_) => Refusal::Misplaced(0),
+    match record_at(job, 0) {
+        Record::Unknown => Err(Refusal::UnknownKind(0)),
+        Record::Cut => Err(Refusal::Cut(0)),
+        Record::Head(number) => Ok(number),
+        Record::Run(_) | Record::End(_) => Err(Refusal::Misplaced(0)),
     }
 }
 
 // The place of an answer, 0 where the job is accepted.
-pub fn place_of(answer: Answer) -> usize
+pub fn place_of(answer: Result<(), Refusal>) -> usize
     ensures { result ≡ answer_place answer }
 {
     match answer {
-        Answer::Accepted => 0,
-        Answer::Refused(refusal) => refusal::place(refusal),
+        Ok(_) => 0,
+        Err(refusal) => refusal::place(refusal),
     }
 }
 
 // The job of number 0 with no run.
-fn empty_job() -> Job
+pub fn empty_job() -> Job
     ensures { result ≡ job_of 0 [] }
 {
+    let none = Spans {
+        first: [0; 32],
+        second: [0; 32],
+    };
     Job {
         number: 0,
         count: 0,
         numbers: [0; 32],
-        x1: [0; 32],
-        y1: [0; 32],
-        x2: [0; 32],
-        y2: [0; 32],
+        x: none,
+        y: none,
     }
 }
 
-// The reading of a refusal.
-fn refusing(refusal: Refusal) -> Reading
-    ensures { result ≡ record { answer = Answer.Refused refusal; job = job_of 0 [] } }
-{
-    let job = empty_job();
-    Reading {
-        answer: Answer::Refused(refusal),
-        job,
+impl Job {
+    // A run behind the others.
+    fn add(&mut self, run: Run)
+        requires { self.old.count < 32 }
+        ensures { self.new ≡ with_run self.old run }
+    {
+        let n = self.count;
+        self.numbers[n] = run.number;
+        self.x.first[n] = run.x1;
+        self.y.first[n] = run.y1;
+        self.x.second[n] = run.x2;
+        self.y.second[n] = run.y2;
+        self.count = n + 1;
     }
 }
 
-// Reads a job into arrays of zeros, one for each field of a run: run k stands at k. Of a job that is refused, the runs before the refusal stand there.
-pub fn read_into(
-    job: &[u8],
-    numbers: &mut [u32; 32],
-    x1: &mut [u32; 32],
-    y1: &mut [u32; 32],
-    x2: &mut [u32; 32],
-    y2: &mut [u32; 32],
-) -> Found
-    requires { Blank numbers.old x1.old y1.old x2.old y2.old }
-    ensures { ReadsInto job.now result (record { number = result.number; count = result.count; numbers = numbers.new; x1 = x1.new; y1 = y1.new; x2 = x2.new; y2 = y2.new }) }
+// Reads a job into an empty one, or gives the first refusal of 3 to 9 and 17 that applies. Of a job that is refused, the runs before the refusal stand there.
+pub fn read_into(bytes: &[u8], job: &mut Job) -> Result<(), Refusal>
+    requires { Blank job.old }
+    ensures { ReadsInto bytes.now result job.new }
 {
-    let first = record_at(job, 0);
-    let Record::Head(number) = first else {
-        let refusal = not_head(first);
-        return Found {
-            answer: Answer::Refused(refusal),
-            number: 0,
-            count: 0,
-        };
-    };
+    job.number = head_number(bytes)?;
     let mut at: usize = 5;
-    let mut n: usize = 0;
     let mut last: u32 = 0;
-    loop {
-        match step_at(job, at, n, last) {
-            Step::Next(run) => {
-                numbers[n] = run.number;
-                x1[n] = run.x1;
-                y1[n] = run.y1;
-                x2[n] = run.x2;
-                y2[n] = run.y2;
-                at = at + 19;
-                n = n + 1;
-                last = run.number;
-            }
-            Step::End => {
-                return Found {
-                    answer: Answer::Accepted,
-                    number,
-                    count: n,
-                };
-            }
-            Step::Refuse(refusal) => {
-                return Found {
-                    answer: Answer::Refused(refusal),
-                    number,
-                    count: n,
-                };
-            }
-        }
+    while let Some(run) = step_at(bytes, at, job.count, last)? {
+        job.add(run);
+        at += 19;
+        last = run.number;
     }
+    Ok(())
 }
 
 // Reads a job: the job, or the first refusal of 3 to 9 and 17 that applies.
-pub fn read(job: &[u8]) -> Reading
-    ensures { Reads job.now result }
+pub fn read(bytes: &[u8]) -> Result<Job, Refusal>
+    ensures { Reads bytes.now result }
 {
-    let mut numbers = [0u32; 32];
-    let mut x1 = [0u32; 32];
-    let mut y1 = [0u32; 32];
-    let mut x2 = [0u32; 32];
-    let mut y2 = [0u32; 32];
-    let found = read_into(job, &mut numbers, &mut x1, &mut y1, &mut x2, &mut y2);
-    let answer = found.answer;
-    match answer {
-        Answer::Accepted => Reading {
-            answer: Answer::Accepted,
-            job: Job {
-                number: found.number,
-                count: found.count,
-                numbers,
-                x1,
-                y1,
-                x2,
-                y2,
-            },
-        },
-        Answer::Refused(refusal) => refusing(refusal),
-    }
+    let mut job = empty_job();
+    read_into(bytes, &mut job)?;
+    Ok(job)
 }

@@ -12,16 +12,14 @@ use lib.ListN.{length, take, drop, drop_of_length-le}
 use lib.Seq.{take-append_seam}
 use Rattle.fields.specs.Bytes.{over}
 use Rattle.job.specs.declared.Run.{Run}
-use Rattle.job.specs.declared.Answer.{Answer}
-use Rattle.job.specs.declared.Answer.TheVariants.{Accepted, Refused}
+use Rattle.std.specs.Prelude.{Ok, Err}
 use Rattle.job.specs.Written.{bytes_of, Bytes, WellFormed}
 use Rattle.job.specs.Parse.{accepted, parse}
 use Rattle.job.proofs.Steps.{passed}
 use Rattle.job.proofs.Rising.{well_formed_rising, rising_well_formed}
 use Rattle.job.proofs.Written.{written_read}
 use Rattle.job.proofs.Accepted.{accepted_iff, accepted_length, written_length}
-use Rattle.job_writer.specs.declared.Outcome.TheVariants as outcome
-use Rattle.job_writer.specs.Listed.{count_of, runs_from, runs_answer, room_answer, list_answer}
+use Rattle.job_writer.specs.Listed.{Answer, count_of, runs_from, runs_answer, room_answer, list_answer}
 use Rattle.job_writer.specs.Call.{book_of, call_by, call_of}
 use Rattle.job_writer.specs.Books.{list_of, JobBooks}
 use Rattle.job_writer.proofs.Runs.{refused_accepted, neither, runs_taken, runs_back, runs_count, list_length}
@@ -32,10 +30,10 @@ use Rattle.job_writer.proofs.Runs.{refused_accepted, neither, runs_taken, runs_b
 pub record Listing (list : List ℤ) (room : ℕ) : Type 0 where
   pub whole : length list ≡ 5 * count_of list
   pub few : count_of list ≤ 32
-  pub runs_accepted : runs_answer list (count_of list) 0 ≡ Accepted
+  pub runs_accepted : runs_answer list (count_of list) 0 ≡ Ok tt
   pub long : 8 + 19 * count_of list ≤ room
 
-pub accepted_listing : (list : List ℤ) (room : ℕ) → list_answer list room ≡ Accepted → Listing list room
+pub accepted_listing : (list : List ℤ) (room : ℕ) → list_answer list room ≡ Ok tt → Listing list room
 unfolding list_answer
 accepted_listing list room e =
     let a = passed (not (eqb (length list % 5) 0)) _ _ _ e (refused_accepted _) in
@@ -45,7 +43,7 @@ accepted_listing list room e =
     let z = eqb-true (length list % 5) 0 (not-false _ a.0) in
     record { whole = omega arith; few = ltb-false _ _ b.0; runs_accepted = c.0; long = ltb-false _ _ d.0 }
 
-listing_accepted : (list : List ℤ) (room : ℕ) → Listing list room → list_answer list room ≡ Accepted
+listing_accepted : (list : List ℤ) (room : ℕ) → Listing list room → list_answer list room ≡ Ok tt
 unfolding list_answer
 listing_accepted list room l =
     rw (eq-eqb (length list % 5) 0 (omega (arith, l.whole)), le-ltb 32 (count_of list) l.few, l.runs_accepted, le-ltb room (8 + 19 * count_of list) l.long)
@@ -81,18 +79,18 @@ well_formed_listing number runs room w h =
 -- ---- the call
 
 -- a call that writes accepts, and says the book's length
-written_accepted : (a : Answer) (book out : List ℕ) (n : ℕ) → (call_by a book out).says ≡ outcome.Written n → (a ≡ Accepted) × (n ≡ length book)
-written_accepted Accepted book out n e = (refl, cc)
-written_accepted (Refused x) book out n e = absurd (let z : ◌≡◌ {A = ℕ} 0 1 = cc in omega arith)
+written_accepted : (a : Answer) (book out : List ℕ) (n : ℕ) → (call_by a book out).says ≡ Ok n → (a ≡ Ok tt) × (n ≡ length book)
+written_accepted (Ok _) book out n e = (refl, cc)
+written_accepted (Err x) book out n e = absurd (let z : ◌≡◌ {A = ℕ} 0 1 = cc in omega arith)
 
 -- the call on a list that is accepted
-accepted_call : (number : ℕ) (list : List ℤ) (out : List ℕ) → list_answer list (length out) ≡ Accepted
-    → call_of number list out ≡ call_by Accepted (book_of number list) out
+accepted_call : (number : ℕ) (list : List ℤ) (out : List ℕ) → list_answer list (length out) ≡ Ok tt
+    → call_of number list out ≡ call_by (Ok tt) (book_of number list) out
 unfolding call_of
 accepted_call number list out e = ap (λ a. call_by a (book_of number list) out) e
 
 -- a call that writes, with its list
-writing : (number : ℕ) (list : List ℤ) (out : List ℕ) (n : ℕ) → (call_of number list out).says ≡ outcome.Written n
+writing : (number : ℕ) (list : List ℤ) (out : List ℕ) (n : ℕ) → (call_of number list out).says ≡ Ok n
     → Listing list (length out) × (n ≡ length (book_of number list)) × ((call_of number list out).out ≡ over (book_of number list) out)
 unfolding call_of
 writing number list out n e =
@@ -100,13 +98,13 @@ writing number list out n e =
     (accepted_listing list (length out) w.0, w.1, ap (λ c. c.out) (accepted_call number list out w.0))
 
 -- no book is longer than that of 32 runs
-pub written_most : (number : ℕ) (list : List ℤ) (out : List ℕ) (n : ℕ) → (call_of number list out).says ≡ outcome.Written n → n ≤ 616
+pub written_most : (number : ℕ) (list : List ℤ) (out : List ℕ) (n : ℕ) → (call_of number list out).says ≡ Ok n → n ≤ 616
 written_most number list out n e =
     let w = writing number list out n e in
     omega (arith, w.1, w.0.few, written_length number (runs_of list), runs_count list (count_of list) 0)
 
 -- "The reader gives the same job number and runs back"
-read_back : (number : ℕ) (list : List ℤ) (out : List ℕ) (n : ℕ) → number < 2 ^ 32 → (call_of number list out).says ≡ outcome.Written n
+read_back : (number : ℕ) (list : List ℤ) (out : List ℕ) (n : ℕ) → number < 2 ^ 32 → (call_of number list out).says ≡ Ok n
     → (runs : List Run) × (parse (take n (call_of number list out).out) ≡ accepted number runs) × (list_of runs ≡ list)
 unfolding over
 read_back number list out n fits e =
@@ -117,13 +115,13 @@ read_back number list out n fits e =
 
 -- "any accepted job book is what the writer makes of its runs and job number"
 every_book : (s out : List ℕ) (number : ℕ) (runs : List Run) → Bytes s → parse s ≡ accepted number runs → length s ≤ length out
-    → call_of number (list_of runs) out ≡ record { says = outcome.Written (length s); out = over s out }
+    → call_of number (list_of runs) out ≡ record { says = Ok (length s); out = over s out }
 every_book s out number runs b e h =
     let w = (accepted_iff s number runs b).0 e in
     let n = accepted_length s number runs b e in
     let l = well_formed_listing number runs (length out) w.0 (omega arith) in
     let book : book_of number (list_of runs) ≡ s = ap (bytes_of number) l.1 ∙ sym w.1 in
-    accepted_call number (list_of runs) out (listing_accepted (list_of runs) (length out) l.0) ∙ ap (λ k. call_by Accepted k out) book
+    accepted_call number (list_of runs) out (listing_accepted (list_of runs) (length out) l.0) ∙ ap (λ k. call_by (Ok tt) k out) book
 
 pub job_books : JobBooks
 job_books =

@@ -13,28 +13,27 @@ use lib.ListN.{length, get_or, drop}
 use lib.Seq.{drop-cons, drop-drop, get_or-drop}
 use Rattle.refusal.specs.declared.Refusal.{Refusal}
 use Rattle.job.specs.declared.Run.{Run}
-use Rattle.job.specs.declared.Answer.{Answer}
-use Rattle.job.specs.declared.Answer.TheVariants.{Accepted, Refused}
+use Rattle.std.specs.Prelude.{Ok, Err}
 use Rattle.job.specs.Fields.{decimetres}
 use Rattle.job.specs.Written.{InRange, Coincide}
 use Rattle.job.specs.Parse.{coincide}
 use Rattle.job.proofs.Steps.{passed, coincide_false, apart_tested}
 use Rattle.job.proofs.Rising.{Rising, none, more}
 use Rattle.job_writer.specs.declared.Listed.{Listed}
-use Rattle.job_writer.specs.Listed.{listed_at, run_of, runs_from, first_of, number_before, follows, in_range, coordinates_in, run_answer, runs_answer}
+use Rattle.job_writer.specs.Listed.{Answer, listed_at, run_of, runs_from, first_of, number_before, follows, in_range, coordinates_in, run_answer, runs_answer}
 use Rattle.job_writer.specs.Books.{five_of, list_of}
 use Rattle.job_writer.proofs.Signed.{Held, in_range_true, held_decimetres, biased_decimetres, true_in_range, Follows, follows_true, true_follows}
 
 -- ---- answers
 
 -- a refusal accepts nothing
-pub refused_accepted : (x : Refusal) → Refused x ≡ Accepted → ⊥
+pub refused_accepted : (x : Refusal) → ◌≡◌ {A = Answer} (Err x) (Ok tt) → ⊥
 refused_accepted x e = let z : ◌≡◌ {A = ℕ} 0 1 = cc in omega arith
 
 -- of two answers neither is a refusal
-pub neither : (a b : Answer) → first_of a b ≡ Accepted → (a ≡ Accepted) × (b ≡ Accepted)
-neither Accepted b e = (refl, e)
-neither (Refused x) b e = absurd (refused_accepted x e)
+pub neither : (a b : Answer) → first_of a b ≡ Ok tt → (a ≡ Ok tt) × (b ≡ Ok tt)
+neither (Ok _) b e = (refl, e)
+neither (Err x) b e = absurd (refused_accepted x e)
 
 -- ---- one run
 
@@ -62,7 +61,7 @@ coordinates_true l t =
     record { x1_in = y1.0; y1_in = y1.1; x2_in = x2.1; y2_in = y2.1 }
 
 -- the three tests of a run that is accepted
-pub run_passed : (list : List ℤ) (i : ℕ) → run_answer list i ≡ Accepted
+pub run_passed : (list : List ℤ) (i : ℕ) → run_answer list i ≡ Ok tt
     → (follows (number_before list i) (listed_at list i).number ≡ true) × (coordinates_in (listed_at list i) ≡ true)
     × (coincide (run_of (listed_at list i)) ≡ false)
 unfolding run_answer
@@ -72,7 +71,7 @@ run_passed list i e =
     let c = passed (coincide (run_of (listed_at list i))) _ _ _ b.1 (refused_accepted _) in
     (not-false _ a.0, not-false _ b.0, c.0)
 
-run_good : (list : List ℤ) (i last : ℕ) → number_before list i ≡ pos last → run_answer list i ≡ Accepted → Good last (listed_at list i)
+run_good : (list : List ℤ) (i last : ℕ) → number_before list i ≡ pos last → run_answer list i ≡ Ok tt → Good last (listed_at list i)
 run_good list i last h e =
     let t = run_passed list i e in
     let r = coordinates_true (listed_at list i) t.1 in
@@ -130,7 +129,7 @@ pub record Taken (list : List ℤ) (left i last : ℕ) : Type 0 where
   pub up : Rising last (runs_from list left i)
   pub listed : drop (5 * i) list ≡ list_of (runs_from list left i) ++ drop (5 * (i + left)) list
 
-pub runs_taken : (list : List ℤ) (left i last : ℕ) → 5 * (i + left) ≤ length list → number_before list i ≡ pos last → runs_answer list left i ≡ Accepted
+pub runs_taken : (list : List ℤ) (left i last : ℕ) → 5 * (i + left) ≤ length list → number_before list i ≡ pos last → runs_answer list left i ≡ Ok tt
     → Taken list left i last
 unfolding runs_from runs_answer flat_map
 runs_taken list zero i last h p e = record { up = none; listed = rw (add-zero i) refl }
@@ -181,7 +180,7 @@ stands list rest i r e j =
 
 -- a run in range and between two points, above the number before it, is accepted
 listed_accepted : (list : List ℤ) (i last : ℕ) (r : Run) → number_before list i ≡ pos last → listed_at list i ≡ as_listed r → last < r.number → InRange r → (Coincide r → ⊥)
-    → run_answer list i ≡ Accepted
+    → run_answer list i ≡ Ok tt
 unfolding run_answer
 listed_accepted list i last r p e up h apart =
     let f : follows (number_before list i) (listed_at list i).number ≡ true =
@@ -199,7 +198,7 @@ listed_accepted list i last r p e up h apart =
 
 -- the runs that the list has from index i on
 pub record Back (list : List ℤ) (runs : List Run) (i : ℕ) : Type 0 where
-  pub accepted : runs_answer list (length runs) i ≡ Accepted
+  pub accepted : runs_answer list (length runs) i ≡ Ok tt
   pub same : runs_from list (length runs) i ≡ runs
 
 pub runs_back : (list : List ℤ) (runs : List Run) (i last : ℕ) → number_before list i ≡ pos last → drop (5 * i) list ≡ list_of runs → Rising last runs
@@ -227,7 +226,7 @@ pub answers_next : (list : List ℤ) (count i : ℕ) → i < count
 unfolding runs_answer
 answers_next list count i h = rw (left_more count i h, add-one i) refl
 
-pub answers_end : (list : List ℤ) (count i : ℕ) → count ≤ i → runs_answer list (count - i) i ≡ Accepted
+pub answers_end : (list : List ℤ) (count i : ℕ) → count ≤ i → runs_answer list (count - i) i ≡ Ok tt
 unfolding runs_answer
 answers_end list count i h = let e : count - i ≡ 0 = omega arith in rw e refl
 

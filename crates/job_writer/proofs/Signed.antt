@@ -7,8 +7,8 @@ use native.Mathlib.Omega.{arith}
 use native.Mathlib.Decide.{dec_lt}
 use borrow.Author.Tests.{lt-ltb, le-ltb, le-leb, ltb-true, leb-true}
 use lib.IntN.{ℤ, pos, negsuc, nat_abs, ◌+ℤ◌, ◌-ℤ◌, +ℤ-neg_ℤ_cancel, -ℤ-+ℤ_cancel}
-use lib.Dec.{T, leb, ltb}
-use lib.Signed.{mag, le_z, lt_z, non_neg}
+use lib.Dec.{leb, ltb}
+use lib.Signed.{mag}
 use mir.Syntax.{w32}
 use mir.Val.{to_z, of_z}
 use mir.ValLaws.{to_z-of_z}
@@ -49,16 +49,6 @@ true_in_range c h = go (dec_lt c 1000000)
     go (no l) = rw (le-ltb c 1000000 (omega arith)) (le-leb (c - 1000000) 1000000 (omega arith))
 
 -- ---- run numbers
-
--- a number from 1 on is not below 0
-pub positive : (z : ℤ) → le_z (pos 1) z ≡ true → T (non_neg z)
-positive (pos n) t = tt
-positive (negsuc n) t = absurd (let z : ◌≡◌ {A = ℕ} 0 1 = cc in omega arith)
-
--- a run number that follows another, whatever that is, is from 1 on
-pub follows_least : (last z : ℤ) → follows last z ≡ true → le_z (pos 1) z ≡ true
-follows_least last z t =
-    ((and-eq-true_iff (le_z (pos 1) z) (le_z z (pos 9999))).0 ((and-eq-true_iff (le_z (pos 1) z && le_z z (pos 9999)) (lt_z last z)).0 t).0).0
 
 -- a number that comes behind a number that is not below 0
 pub record Follows (last : ℕ) (z : ℤ) : Type 0 where

@@ -6,27 +6,25 @@ use mathlib.Core.List.{List, ◌++◌}
 use mathlib.Core.Bool.{true}
 use native.Mathlib.Omega.{arith}
 use native.Mathlib.Numerals.{add-one}
-use lib.IntN.{ℤ, pos}
+use lib.IntN.{ℤ}
 use lib.ListN.{length}
-use lib.Signed.{le_z}
 use borrow.Rule.Slice.PartMut.{mid_of, put_mid}
 use Rattle.fields.specs.Bytes.{Wrote}
 use Rattle.fields.proofs.Over.{Rest, rest_all, rest_next, rest_none}
-use Rattle.job.specs.declared.Answer.TheVariants.{Accepted}
+use Rattle.std.specs.Prelude.{Ok}
 use Rattle.job.specs.Written.{run_bytes, runs_bytes}
 use Rattle.job.proofs.Accepted.{runs_length}
-use Rattle.job_writer.specs.Listed.{listed_at, run_of, runs_from, number_before, coordinates_in, run_answer, runs_answer}
-use Rattle.job_writer.proofs.Signed.{follows_least}
+use Rattle.job_writer.specs.Listed.{listed_at, run_of, runs_from, coordinates_in, run_answer, runs_answer}
 use Rattle.job_writer.proofs.Runs.{neither, run_passed, left_more, answers_next, runs_count}
 
 pub record Writing (list : List ℤ) (count : ℕ) (xs ys : List ℕ) (at i : ℕ) : Type 0 where
   pub few : i ≤ count
   pub place : at ≡ 19 * i
-  pub good : runs_answer list (count - i) i ≡ Accepted
+  pub good : runs_answer list (count - i) i ≡ Ok tt
   pub rest : Rest (runs_bytes (runs_from list count 0)) (runs_bytes (runs_from list (count - i) i)) xs ys at
 
 -- at first all are left
-pub writing_all : (list : List ℤ) (count : ℕ) (xs : List ℕ) → runs_answer list count 0 ≡ Accepted → 19 * count ≤ length xs → Writing list count xs xs 0 0
+pub writing_all : (list : List ℤ) (count : ℕ) (xs : List ℕ) → runs_answer list count 0 ≡ Ok tt → 19 * count ≤ length xs → Writing list count xs xs 0 0
 writing_all list count xs e h =
     let n : count - 0 ≡ count = omega arith in
     record {
@@ -38,14 +36,12 @@ writing_all list count xs e h =
 
 module _ (list : List ℤ) (count : ℕ) (xs ys : List ℕ) (at i : ℕ) (w : Writing list count xs ys at i) (h : i < count) where
   -- the next run and those after it are accepted
-  both : (run_answer list i ≡ Accepted) × (runs_answer list (count - (i + 1)) (i + 1) ≡ Accepted)
+  both : (run_answer list i ≡ Ok tt) × (runs_answer list (count - (i + 1)) (i + 1) ≡ Ok tt)
   both = neither (run_answer list i) (runs_answer list (count - (i + 1)) (i + 1)) (sym (answers_next list count i h) ∙ w.good)
 
   -- the next run can be held
-  pub next_held : (le_z (pos 1) (listed_at list i).number ≡ true) × (coordinates_in (listed_at list i) ≡ true)
-  next_held =
-      let p = run_passed list i both.0 in
-      (follows_least (number_before list i) (listed_at list i).number p.0, p.1)
+  pub next_held : coordinates_in (listed_at list i) ≡ true
+  next_held = (run_passed list i both.0).1
 
   next_bytes : runs_bytes (runs_from list (count - i) i) ≡ run_bytes (run_of (listed_at list i)) ++ runs_bytes (runs_from list (count - (i + 1)) (i + 1))
   unfolding runs_from runs_bytes

@@ -1,13 +1,12 @@
 -- A job as a list of numbers, "32-bit signed numbers, five a run (number, first x, first y, second x, second y)" (document 02, C-15): its runs, and which
 -- refusal a list is given.
 -- Assumes nothing.
-use Rattle.std.specs.Prelude.{ℕ, zero, suc, ◌+◌, ◌*◌, ◌/◌, ◌%◌, List, [], ◌∷◌, Bool, cond, not, ◌&&◌, eqb, ltb, ℤ, pos, neg_ℤ, nat_abs, ◌+ℤ◌, length, get_or}
+use Rattle.std.specs.Prelude.{Result, Ok, Err, ℕ, zero, suc, ◌+◌, ◌*◌, ◌/◌, ◌%◌, List, [], ◌∷◌, Bool, cond, not, ◌&&◌, eqb, ltb, ℤ, pos, neg_ℤ, nat_abs, ◌+ℤ◌, length, get_or}
 use Rattle.std.specs.Int.Signed.{le_z, lt_z}
+use Rattle.refusal.specs.declared.Refusal.{Refusal}
 use Rattle.refusal.specs.declared.Refusal.TheVariants.{ShortBuffer, Cut, WrongNumber, OutOfRange, TooManyRuns, Coincident}
 use Rattle.job.specs.declared.Run.{Run}
 use Rattle.job.specs.Parse.{coincide}
-use Rattle.job.specs.declared.Answer.{Answer}
-use Rattle.job.specs.declared.Answer.TheVariants.{Accepted, Refused}
 use Rattle.job_writer.specs.declared.Listed.{Listed}
 
 -- ---- the runs
@@ -42,10 +41,14 @@ runs_from list (suc left) i = run_of (listed_at list i) ∷ runs_from list left 
 
 -- ---- the refusals
 
+-- whether a list is refused
+abbrev pub Answer : Type 0
+Answer = Result (Unit {0}) Refusal
+
 -- the first of two answers that is a refusal
 abbrev pub first_of : Answer → Answer → Answer
-first_of Accepted later = later
-first_of (Refused x) later = Refused x
+first_of (Ok _) later = later
+first_of (Err x) later = Err x
 
 -- the number of the run before run i, 0 where there is none
 abbrev pub number_before : List ℤ → ℕ → ℤ
@@ -66,22 +69,22 @@ coordinates_in l = in_range l.x1 && in_range l.y1 && in_range l.x2 && in_range l
 -- run i: 7, then 8, then 17 (document 02, C-18: "after 8 for that run"), "place being the run's index from 0"; by then its numbers are in their ranges
 unfoldable pub run_answer : List ℤ → ℕ → Answer
 run_answer list i =
-    cond (not (follows (number_before list i) (listed_at list i).number)) (Refused (WrongNumber i))
-    (cond (not (coordinates_in (listed_at list i))) (Refused (OutOfRange i))
-    (cond (coincide (run_of (listed_at list i))) (Refused (Coincident i)) Accepted))
+    cond (not (follows (number_before list i) (listed_at list i).number)) (Err (WrongNumber i))
+    (cond (not (coordinates_in (listed_at list i))) (Err (OutOfRange i))
+    (cond (coincide (run_of (listed_at list i))) (Err (Coincident i)) (Ok tt)))
 
 -- so many runs, from index i on: "run by run"
 unfoldable pub runs_answer : List ℤ → (left i : ℕ) → Answer
-runs_answer list zero i = Accepted
+runs_answer list zero i = Ok tt
 runs_answer list (suc left) i = first_of (run_answer list i) (runs_answer list left (suc i))
 
 -- 2: "A buffer shorter than 8 bytes plus 19 a run is refused as 2 with place 0"
 abbrev pub room_answer : (count room : ℕ) → Answer
-room_answer count room = cond (ltb room (8 + 19 * count)) (Refused ShortBuffer) Accepted
+room_answer count room = cond (ltb room (8 + 19 * count)) (Err ShortBuffer) (Ok tt)
 
 -- "The order is 3, 9, then 7 and 8 run by run, then 2", with 17 after 8. 3: "A list whose length is no multiple of five is refused as 3 with the list's length as place"; 9: "a
 -- 33rd run" (01), whose index is 32.
 unfoldable pub list_answer : List ℤ → (room : ℕ) → Answer
 list_answer list room =
-    cond (not (eqb (length list % 5) 0)) (Refused (Cut (length list)))
-    (cond (ltb 32 (count_of list)) (Refused (TooManyRuns 32)) (first_of (runs_answer list (count_of list) 0) (room_answer (count_of list) room)))
+    cond (not (eqb (length list % 5) 0)) (Err (Cut (length list)))
+    (cond (ltb 32 (count_of list)) (Err (TooManyRuns 32)) (first_of (runs_answer list (count_of list) 0) (room_answer (count_of list) room)))

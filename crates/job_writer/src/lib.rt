@@ -1,14 +1,13 @@
 // Writes a job book (document 01, "Job book") from a list of numbers, five a run (document 02, C-15).
 #![tactic(auto)]
 
-ghost use Rattle.std.specs.Prelude.{◌≡◌, true, ◌∷◌, ◌+◌, ◌*◌, ◌≤◌, pos, length};
-ghost use Rattle.std.specs.Int.Signed.{le_z};
+ghost use Rattle.std.specs.Prelude.{◌≡◌, true, ◌∷◌, ◌+◌, ◌*◌, ◌≤◌, length, Ok};
 ghost use Rattle.fields.specs.Bytes.{Wrote};
 ghost use Rattle.job.specs.Written.{bytes4, run_bytes, runs_bytes};
-ghost use Rattle.job_writer.specs.Listed.{listed_at, biased, run_of, runs_from, first_of, number_before, follows, in_range, coordinates_in, run_answer, runs_answer, room_answer, list_answer};
+ghost use Rattle.job_writer.specs.Listed.{listed_at, biased, run_of, runs_from, number_before, follows, in_range, coordinates_in, run_answer, runs_answer, room_answer, list_answer};
 ghost use Rattle.job_writer.specs.Call.{book_of, call_of};
 
-use job::{Answer, Run};
+use job::Run;
 use refusal::Refusal;
 
 // A run as it is listed: its number, and its two points in decimetres.
@@ -19,13 +18,6 @@ pub struct Listed {
     pub y1: i32,
     pub x2: i32,
     pub y2: i32,
-}
-
-// What a call says: the book's length, or why there is none.
-#[derive(Clone, Copy)]
-pub enum Outcome {
-    Written(usize),
-    Refused(Refusal),
 }
 
 // Run i of the list.
@@ -57,14 +49,14 @@ fn number_before(runs: &[i32], i: usize) -> i32
 fn number_follows(last: i32, number: i32) -> bool
     ensures { result ≡ follows last number }
 {
-    (1 <= number) & (number <= 9999) & (last < number)
+    (1..=9999).contains(&number) && last < number
 }
 
 // A coordinate is in its range.
 fn in_range(c: i32) -> bool
     ensures { result ≡ in_range c }
 {
-    (-1000000 <= c) & (c <= 1000000)
+    (-1000000..=1000000).contains(&c)
 }
 
 // All four coordinates are in their range.
@@ -79,16 +71,16 @@ fn biased_of(c: i32) -> u32
     requires { in_range c ≡ true }
     ensures { result ≡ biased c }
 {
-    (c + 1000000) as u32
+    (c + 1000000).unsigned_abs()
 }
 
 // A run as a job holds it.
 fn run_of(run: Listed) -> Run
-    requires { (le_z (pos 1) run.number ≡ true) × (coordinates_in run ≡ true) }
+    requires { coordinates_in run ≡ true }
     ensures { result ≡ run_of run }
 {
     Run {
-        number: run.number as u32,
+        number: run.number.unsigned_abs(),
         x1: biased_of(run.x1),
         y1: biased_of(run.y1),
         x2: biased_of(run.x2),
@@ -97,75 +89,61 @@ fn run_of(run: Listed) -> Run
 }
 
 // Whether run i of the list is refused.
-fn run_answer(runs: &[i32], i: usize) -> Answer
+#[tactic(auto, unfolding(crate::specs::Listed::run_answer))]
+fn check_run(runs: &[i32], i: usize) -> Result<(), Refusal>
     requires { 5 * i + 5 ≤ length runs.now }
     ensures { result ≡ run_answer runs.now i }
 {
     let run = listed_at(runs, i);
     if !number_follows(number_before(runs, i), run.number) {
-        return Answer::Refused(Refusal::WrongNumber(i));
+        return Err(Refusal::WrongNumber(i));
     }
     if !coordinates_in(run) {
-        return Answer::Refused(Refusal::OutOfRange(i));
+        return Err(Refusal::OutOfRange(i));
     }
     if job::coincide(run_of(run)) {
-        return Answer::Refused(Refusal::Coincident(i));
+        return Err(Refusal::Coincident(i));
     }
-    Answer::Accepted
+    Ok(())
 }
 
 // Whether one of the first `count` runs is refused.
-fn runs_answer(runs: &[i32], count: usize) -> Answer
+fn check_runs(runs: &[i32], count: usize) -> Result<(), Refusal>
     requires { 5 * count ≤ length runs.now }
     ensures { result ≡ runs_answer runs.now count 0 }
 {
-    let mut i: usize = 0;
-    while i < count {
-        let answer = run_answer(runs, i);
-        if let Answer::Refused(refusal) = answer {
-            return Answer::Refused(refusal);
-        }
-        i += 1;
+    for i in 0..count {
+        check_run(runs, i)?;
     }
-    Answer::Accepted
+    Ok(())
 }
 
 // Whether the buffer is refused.
-fn room_answer(count: usize, room: usize) -> Answer
+fn check_room(count: usize, room: usize) -> Result<(), Refusal>
     requires { count ≤ 32 }
     ensures { result ≡ room_answer count room }
 {
     if room < 8 + 19 * count {
-        return Answer::Refused(Refusal::ShortBuffer);
+        return Err(Refusal::ShortBuffer);
     }
-    Answer::Accepted
-}
-
-// The first of two answers that is a refusal.
-fn first_of(sooner: Answer, later: Answer) -> Answer
-    ensures { result ≡ first_of sooner later }
-{
-    match sooner {
-        Answer::Accepted => later,
-        Answer::Refused(refusal) => Answer::Refused(refusal),
-    }
+    Ok(())
 }
 
 // Whether a list is refused, with a buffer of so many bytes: 3, 9, then 7, 8 and 17 run by run, then 2.
-pub fn check(runs: &[i32], room: usize) -> Answer
+#[tactic(auto, unfolding(crate::specs::Listed::list_answer))]
+pub fn check(runs: &[i32], room: usize) -> Result<(), Refusal>
     ensures { result ≡ list_answer runs.now room }
 {
     let n = runs.len();
     if n % 5 != 0 {
-        return Answer::Refused(Refusal::Cut(n));
+        return Err(Refusal::Cut(n));
     }
     let count = n / 5;
     if 32 < count {
-        return Answer::Refused(Refusal::TooManyRuns(32));
+        return Err(Refusal::TooManyRuns(32));
     }
-    let wrong = runs_answer(runs, count);
-    let short = room_answer(count, room);
-    first_of(wrong, short)
+    check_runs(runs, count)?;
+    check_room(count, room)
 }
 
 fn write_head(out: &mut [u8], number: u32) -> usize
@@ -192,22 +170,19 @@ fn write_run(out: &mut [u8], run: Run) -> usize
 
 // The first `count` runs, one behind the other.
 fn write_runs(out: &mut [u8], runs: &[i32], count: usize) -> usize
-    requires { (count ≤ 32) × (5 * count ≤ length runs.now) × (19 * count ≤ length out.old) × (runs_answer runs.now count 0 ≡ Answer.Accepted) }
+    requires { (count ≤ 32) × (5 * count ≤ length runs.now) × (19 * count ≤ length out.old) × (runs_answer runs.now count 0 ≡ Ok tt) }
     ensures { Wrote (runs_bytes (runs_from runs.now count 0)) out.old out.new result × (result ≡ 19 * count) }
 {
     let mut at: usize = 0;
-    let mut i: usize = 0;
-    while i < count {
-        let run = run_of(listed_at(runs, i));
-        at += write_run(&mut out[at..], run);
-        i += 1;
+    for i in 0..count {
+        at += write_run(&mut out[at..], run_of(listed_at(runs, i)));
     }
     at
 }
 
 // The whole book, and its length.
 fn write_book(out: &mut [u8], number: u32, runs: &[i32]) -> usize
-    requires { list_answer runs.now (length out.old) ≡ Answer.Accepted }
+    requires { list_answer runs.now (length out.old) ≡ Ok tt }
     ensures { Wrote (book_of number runs.now) out.old out.new result }
 {
     let count = runs.len() / 5;
@@ -217,12 +192,9 @@ fn write_book(out: &mut [u8], number: u32, runs: &[i32]) -> usize
 }
 
 // Writes the job book of a number and a list of runs: the book stands in the first bytes of `out`; or the list is refused, and nothing is written.
-pub fn write(number: u32, runs: &[i32], out: &mut [u8]) -> Outcome
+pub fn write(number: u32, runs: &[i32], out: &mut [u8]) -> Result<usize, Refusal>
     ensures { call_of number runs.now out.old ≡ record { says = result; out = out.new } }
 {
-    let answer = check(runs, out.len());
-    match answer {
-        Answer::Accepted => Outcome::Written(write_book(out, number, runs)),
-        Answer::Refused(refusal) => Outcome::Refused(refusal),
-    }
+    check(runs, out.len())?;
+    Ok(write_book(out, number, runs))
 }

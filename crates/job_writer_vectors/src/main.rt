@@ -6,44 +6,14 @@
 ghost use Rattle.std.specs.Prelude.{◌≡◌, ◌≤◌, length};
 
 use console::{Output, Screen};
-use job_writer::Outcome;
 use std::io;
 
-fn print(screen: &mut Screen, text: &[u8]) {
-    screen.put(text);
-}
-
-fn print_number(screen: &mut Screen, n: u64) {
-    print(screen, b" ");
-    screen.put_decimal(n);
-}
-
-fn print_byte(screen: &mut Screen, b: u8) {
-    screen.put_byte(b);
-}
-
-fn print_bytes(screen: &mut Screen, bytes: &[u8]) {
-    print(screen, b" 0 0 ");
-    for i in 0..bytes.len() {
-        print_byte(screen, bytes[i]);
-    }
-}
-
-// Whether all bytes from a place on are 7.
-fn kept(out: &[u8], from: usize) -> bool {
-    let mut i = from;
-    while i < out.len() {
-        if out[i] != 7 {
-            return false;
-        }
-        i += 1;
-    }
-    true
-}
-
-fn print_kept(screen: &mut Screen, out: &[u8], from: usize) {
-    if !kept(out, from) {
-        print(screen, b" changed");
+// Prints `changed` if a byte of the buffer from a place on is not 7.
+fn print_kept(screen: &mut Screen, out: &[u8], from: usize)
+    requires { from ≤ length out.now }
+{
+    if out[from..].iter().any(|b| *b != 7) {
+        screen.put(b" changed");
     }
 }
 
@@ -51,7 +21,7 @@ fn print_kept(screen: &mut Screen, out: &[u8], from: usize) {
 fn numbers_of(bytes: &[u8], numbers: &mut [i32]) -> usize
     ensures { result ≤ length numbers.new }
 {
-    let n = hexadecimal::least(bytes.len() / 4, numbers.len());
+    let n = (bytes.len() / 4).min(numbers.len());
     for k in 0..n {
         numbers[k] = job::signed_of(job::le32(bytes, 4 * k));
     }
@@ -60,20 +30,23 @@ fn numbers_of(bytes: &[u8], numbers: &mut [i32]) -> usize
 
 // Every byte of the buffer is 7 before the call, which is lent the first of them.
 fn try_list(screen: &mut Screen, number: u32, runs: &[i32], out: &mut [u8], room: usize) {
-    let end = hexadecimal::least(room, out.len());
+    let end = room.min(out.len());
     match job_writer::write(number, runs, &mut out[..end]) {
-        Outcome::Written(length) => {
-            let n = hexadecimal::least(length, out.len());
-            print_bytes(screen, &out[..n]);
+        Ok(length) => {
+            let n = length.min(out.len());
+            screen.put(b" 0 0 ");
+            for b in &out[..n] {
+                screen.put_byte(*b);
+            }
             print_kept(screen, out, n);
         }
-        Outcome::Refused(refusal) => {
-            print_number(screen, refusal::number(refusal) as u64);
-            print_number(screen, refusal::place(refusal) as u64);
+        Err(refusal) => {
+            screen.put_number(u64::from(refusal::number(refusal)));
+            screen.put_number(refusal::place(refusal) as u64);
             print_kept(screen, out, 0);
         }
     }
-    print(screen, b"\n");
+    screen.put(b"\n");
 }
 
 fn sevens() -> [u8; 700]
@@ -90,7 +63,7 @@ fn zeros() -> [i32; 170]
 
 fn try_bytes(screen: &mut Screen, bytes: &[u8]) {
     if bytes.len() < 6 {
-        print(screen, b" too short\n");
+        screen.put(b" too short\n");
         return;
     }
     let mut numbers = zeros();
@@ -102,20 +75,11 @@ fn try_bytes(screen: &mut Screen, bytes: &[u8]) {
 
 fn try_line(screen: &mut Screen, line: &[u8]) {
     let space = hexadecimal::place_of(line, b' ', 0);
-    let digits = hexadecimal::least(space + 1, line.len());
-    print(screen, &line[..space]);
-    let mut bytes = console::buffer();
+    let digits = line.len().min(space + 1);
+    screen.put(&line[..space]);
+    let mut bytes = [0u8; 4096];
     let n = hexadecimal::unhex(&line[digits..], &mut bytes);
     try_bytes(screen, &bytes[..n]);
-}
-
-fn try_lines(screen: &mut Screen, lines: &[u8]) {
-    let mut from: usize = 0;
-    while from < lines.len() {
-        let end = hexadecimal::place_of(lines, b'\n', from);
-        try_line(screen, &lines[from..end]);
-        from = end + 1;
-    }
 }
 
 // Zeros, enough for all lists.
@@ -129,6 +93,8 @@ fn main(rt: HostRuntime) -> io::Result<()> {
     let mut lines = buffer();
     let n = console::read_full(&mut rt.stdin(), &mut lines)?;
     let mut screen = Output::new(rt.stdout());
-    try_lines(&mut screen, &lines[..n]);
+    for line in lines[..n].split_inclusive(|b| *b == b'\n') {
+        try_line(&mut screen, line.strip_suffix(b"\n").unwrap_or(line));
+    }
     screen.end()
 }

@@ -1,6 +1,6 @@
 -- The loops that compare a book's figures with those of the job.
 use mathlib.Core.Path.{◌≡◌, refl, sym, ap, ap₂, ◌∙◌}
-use mathlib.Core.Bool.{Bool, true, false, not, ◌&&◌, ◌||◌, true≢false, false≢true}
+use mathlib.Core.Bool.{Bool, true, false, ◌&&◌}
 use mathlib.Core.List.{List}
 use Prim.Native.Nat.{ℕ, ◌+◌, ◌<◌}
 use native.Mathlib.Omega.{arith}
@@ -13,6 +13,7 @@ use Rattle.job.specs.declared.Job.{Job}
 use Rattle.job.specs.Fields.{word2}
 use Rattle.plan.specs.declared.Head.{Head}
 use Rattle.plan.specs.Plan.{Entry}
+use Rattle.book.specs.declared.Reading.{Reading}
 use Rattle.plan.proofs.Length.{route_size_lem}
 use Rattle.planner.specs.Held.{runs_in, Held}
 use Rattle.planner.proofs.Held.{length_held, numbers_held}
@@ -20,19 +21,12 @@ use Rattle.judge.specs.Judged.{entry_at, is_of}
 use Rattle.judge.specs.Steps.{ReadAs}
 use Rattle.judge.proofs.Entries.{count_read, route_room, number_at, meets_at, newer_room, centre_at}
 
--- ---- two comparisons at once
+-- ---- tests in a row
 
--- one fails, so both do not hold
-pub not_both : (a b c : Bool) → not a || not b ≡ true → false ≡ a && (b && c)
-not_both true true c e = absurd (false≢true e)
-not_both true false c e = refl
-not_both false b c e = refl
-
--- none fails
-pub both_hold : (a b : Bool) → not a || not b ≡ false → (a ≡ true) × (b ≡ true)
-both_hold true true e = (refl, refl)
-both_hold true false e = absurd (true≢false e)
-both_hold false b e = absurd (true≢false e)
+-- the second fails
+pub second_off : (a b c : Bool) → false ≡ b → false ≡ a && (b && c)
+second_off true b c e = ap (λ t. t && c) e
+second_off false b c e = refl
 
 -- the third fails
 pub third_off : (a b c : Bool) → false ≡ c → false ≡ a && (b && c)
@@ -56,34 +50,25 @@ module _ (j : Job) (H : Held j) (h : Head) (es : List Entry) where
 
 -- ---- what is read at a route's place
 
-module _ (book places : List ℕ) (h : Head) (es : List Entry) (R : ReadAs book places h es) (n : ℕ) (counted : h.runs ≡ n) (i : ℕ) (l : i < n) where
+module _ (book : List ℕ) (r : Reading) (es : List Entry) (R : ReadAs book r es) (n : ℕ) (counted : r.head.runs ≡ n) (i : ℕ) (l : i < n) where
   pub listed : i < length es
-  listed = omega (arith, (count_read book places h es R).0)
+  listed = omega (arith, (count_read book r es R).0)
 
   -- the run number, and the bytes that hold it
-  pub number_room : get_or places i 0 + 2 < length book
-  number_room = omega (arith, route_room book places h es R i listed, route_size_lem h.grouped)
+  pub number_room : get_or r.places i 0 + 2 < length book
+  number_room = omega (arith, route_room book r es R i listed, route_size_lem r.head.grouped)
 
-  pub number_says : (at r : ℕ) → at ≡ get_or places i 0 → r ≡ word2 book (at + 1) → r ≡ (entry_at es i).number
-  number_says at r a e = e ∙ ap (λ p. word2 book (p + 1)) a ∙ number_at book places h es R i listed
+  pub number_says : (at v : ℕ) → at ≡ get_or r.places i 0 → v ≡ word2 book (at + 1) → v ≡ (entry_at es i).number
+  number_says at v a e = e ∙ ap (λ p. word2 book (p + 1)) a ∙ number_at book r es R i listed
 
   -- the meets figure
-  pub meets_says : (at r : ℕ) → at ≡ get_or places i 0 → r ≡ word2 book (at + 3) → r ≡ (entry_at es i).meets
-  meets_says at r a e = e ∙ ap (λ p. word2 book (p + 3)) a ∙ meets_at book places h es R i listed
+  pub meets_says : (at v : ℕ) → at ≡ get_or r.places i 0 → v ≡ word2 book (at + 3) → v ≡ (entry_at es i).meets
+  meets_says at v a e = e ∙ ap (λ p. word2 book (p + 3)) a ∙ meets_at book r es R i listed
 
-  module _ (newer : h.grouped ≡ true) where
+  module _ (newer : r.head.grouped ≡ true) where
     -- the centre, and the bytes up to it
-    pub centre_room : get_or places i 0 + 8 < length book
-    centre_room = omega (arith, newer_room book places h es R i listed newer)
+    pub centre_room : get_or r.places i 0 + 8 < length book
+    centre_room = omega (arith, newer_room book r es R i listed newer)
 
-    pub centre_says : (at r : ℕ) → at ≡ get_or places i 0 → r ≡ word2 book (at + 7) → r ≡ (entry_at es i).centre
-    centre_says at r a e = e ∙ ap (λ p. word2 book (p + 7)) a ∙ centre_at book places h es R i listed newer
-
--- two comparisons of numbers, of which one fails
-pub either_fails : (a b c d : ℕ) → not (eqb a b) || not (eqb c d) ≡ true → eqb a b && eqb c d ≡ false
-either_fails a b c d e = go (eqb a b) (eqb c d) e
-  where
-    go : (p q : Bool) → not p || not q ≡ true → p && q ≡ false
-    go true true e = absurd (false≢true e)
-    go true false e = refl
-    go false q e = refl
+    pub centre_says : (at v : ℕ) → at ≡ get_or r.places i 0 → v ≡ word2 book (at + 7) → v ≡ (entry_at es i).centre
+    centre_says at v a e = e ∙ ap (λ p. word2 book (p + 7)) a ∙ centre_at book r es R i listed newer

@@ -2,6 +2,7 @@
 use mathlib.Core.Path.{◌≡◌, refl, sym, ap, ap₂, ◌∙◌}
 use mathlib.Core.Bool.{Bool, true, false, not, ◌&&◌, ◌||◌, and_comm}
 use mathlib.Core.List.{List, [], ◌∷◌}
+use Rattle.std.specs.Prelude.{Some, None}
 use Prim.Native.Nat.{ℕ, suc, ◌+◌, ◌*◌, ◌-◌, ◌<◌}
 use native.Mathlib.Omega.{arith}
 use lib.Dec.{eqb}
@@ -48,13 +49,12 @@ four_tests false b c d t = refl
 
 -- the test of a route by its first corner and its last, as they stand in a book
 pub ends_read : (book : List ℕ) (at n : ℕ) (run : Run) (route : Route) → Drawn book at route → n ≡ length route
-    → (c d : Corner) → c ≡ corner_there book at → d ≡ corner_there book (at + 9 * (n - 1))
+    → (c d : Corner) → c ≡ corner_there book (at + 9 * 0) → d ≡ corner_there book (at + 9 * (n - 1))
     → ends_right run route ≡ (not (differ c d run) && eqb (sum distance (pieces route)) (distance run))
 unfolding ends_right same_point
 ends_read book at n run route w e c d a b =
-    let z : at ≡ at + 9 * 0 = omega arith in
     let t = eqb (sum distance (pieces route)) (distance run) in
-    let p = corner_read book at route w 0 w.some c (a ∙ ap (corner_there book) z) in
+    let p = corner_read book at route w 0 w.some c a in
     let q = corner_read book at route w (length route - 1) (omega (arith, w.some)) d (b ∙ ap (λ k. corner_there book (at + 9 * (k - 1))) e) in
     ap₂ (λ s e. s && (e && t))
     (starts_corner route run.first w.some ∙ ap (λ r. same_point r run.first) (sym p.0))
@@ -100,16 +100,25 @@ ends_first run route h t =
 -- ---- where it starts
 
 -- a line of the grid is found in its table
-found_listed : (l table : List ℕ) (n v r : ℕ) → Rising l → ((i : ℕ) → i < length l → get_or table i 0 ≡ get_or l i 0) → n ≡ length l → Listed l v → Finds table n v r
+found_listed : (l table : List ℕ) (n v r : ℕ) → ((i : ℕ) → i < length l → get_or table i 0 ≡ get_or l i 0) → n ≡ length l → Finds table n v (Some r)
     → (r < n) × (get_or l r 0 ≡ v)
-found_listed l table n v r rises same e listed (found i h f) = (h, sym (same i (omega arith)) ∙ f)
-found_listed l table n v r rises same e (i, h, f) (nowhere o) =
-    absurd (o (λ j k. omega (arith, same j (omega arith), same (suc j) (omega arith), rises j (omega arith))) i (omega arith) (same i h ∙ f))
+found_listed l table n v r same e (found i h f) = (h, sym (same i (omega arith)) ∙ f)
 
--- so is the vertex of a point
-pub found_vertex : {columns rows : List ℕ} {across down : ℕ} (g : Grid) (p : Point) (i j : ℕ) → Ruled g columns across rows down → Vertex g p
-    → Finds columns across p.x i → Finds rows down p.y j → (i < across) × (j < down) × (vertex g i j ≡ p)
-found_vertex {columns} {rows} {across} {down} g p i j h v f k =
-    let (a, x) = found_listed g.columns columns across p.x i g.columns_rise h.tables.column_at h.across_is v.column f in
-    let (b, y) = found_listed g.rows rows down p.y j g.rows_rise h.tables.row_at h.down_is v.row k in
-    (a, b, point_path x y)
+never_listed : (l table : List ℕ) (n v : ℕ) → Rising l → ((i : ℕ) → i < length l → get_or table i 0 ≡ get_or l i 0) → n ≡ length l → Listed l v → Finds table n v None → ⊥
+never_listed l table n v rises same e (i, h, f) (nowhere o) =
+    o (λ j k. omega (arith, same j (omega arith), same (suc j) (omega arith), rises j (omega arith))) i (omega arith) (same i h ∙ f)
+
+module _ {columns rows : List ℕ} {across down : ℕ} (g : Grid) (p : Point) (h : Ruled g columns across rows down) where
+  -- so is the vertex of a point
+  pub found_vertex : (i j : ℕ) → Finds columns across p.x (Some i) → Finds rows down p.y (Some j) → (i < across) × (j < down) × (vertex g i j ≡ p)
+  found_vertex i j f k =
+      let (a, x) = found_listed g.columns columns across p.x i h.tables.column_at h.across_is f in
+      let (b, y) = found_listed g.rows rows down p.y j h.tables.row_at h.down_is k in
+      (a, b, point_path x y)
+
+  -- which has both its lines
+  pub column_there : Vertex g p → Finds columns across p.x None → ⊥
+  column_there v = never_listed g.columns columns across p.x g.columns_rise h.tables.column_at h.across_is v.column
+
+  pub row_there : Vertex g p → Finds rows down p.y None → ⊥
+  row_there v = never_listed g.rows rows down p.y g.rows_rise h.tables.row_at h.down_is v.row

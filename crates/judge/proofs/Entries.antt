@@ -11,7 +11,7 @@ use Rattle.network.specs.Graph.{origin}
 use Rattle.network.proofs.Lists.{index_member, all_member}
 use Rattle.job.specs.Fields.{word2, biased_of}
 use Rattle.job.proofs.There.{word2_there, word4_there}
-use Rattle.plan.specs.declared.Head.{Head}
+use Rattle.book.specs.declared.Reading.{Reading}
 use Rattle.plan.specs.Plan.{Entry}
 use Rattle.plan.specs.Records.{route_size}
 use Rattle.plan.specs.Fits.{PointIn}
@@ -67,60 +67,60 @@ corner_words s at v p k =
 
 -- ---- a book that was read
 
-module _ (book places : List ℕ) (h : Head) (es : List Entry) (R : ReadAs book places h es) where
+module _ (book : List ℕ) (r : Reading) (es : List Entry) (R : ReadAs book r es) where
   -- its routes are as many as its head says, and at most 32
-  pub count_read : (h.runs ≡ length es) × (length es ≤ 32)
-  count_read = accepted_routes book h es R.parsed
+  pub count_read : (r.head.runs ≡ length es) × (length es ≤ 32)
+  count_read = accepted_routes book r.head es R.parsed
 
-  abbrev took : Accepts book h es
-  took = accepts book h es R.parsed
+  abbrev took : Accepts book r.head es
+  took = accepts book r.head es R.parsed
 
   length_told : length took.told ≡ length es
   length_told = sym (length-map took.told (λ (t : Told). t.entry)) ∙ ap length took.entries
 
   module _ (i : ℕ) (k : i < length es) where
     abbrev at : ℕ
-    at = get_or places i 0
+    at = get_or r.places i 0
 
-    stood : Stands book h.grouped took.told i (get_or places i 0) (get_or places (i + 1) 0)
+    stood : Stands book r.head.grouped took.told i (get_or r.places i 0) (get_or r.places (i + 1) 0)
     stood =
-        placed book h.grouped places took.told i (R.placed ∙ ap (λ l. padded (placesFrom h.grouped 19 l)) (sym took.entries)) took.held
+        placed book r.head.grouped r.places took.told i (R.placed ∙ ap (λ l. padded (placesFrom r.head.grouped 19 l)) (sym took.entries)) took.held
         (omega (arith, length_told))
 
     entry_is : stood.route.entry ≡ entry_at es i
     entry_is = sym (front_entry took.told i stood.route stood.here (omega (arith, length_told))) ∙ ap (λ l. entry_at l i) took.entries
 
     -- the record of route i is whole
-    pub route_room : get_or places i 0 + route_size h.grouped ≤ length book
-    route_room = omega (arith, (rw stood.at.is at (record_long (drop at book))).0, length-drop at book, route_size_lem h.grouped)
+    pub route_room : get_or r.places i 0 + route_size r.head.grouped ≤ length book
+    route_room = omega (arith, (rw stood.at.is at (record_long (drop at book))).0, length-drop at book, route_size_lem r.head.grouped)
 
-    pub number_at : word2 book (get_or places i 0 + 1) ≡ (entry_at es i).number
+    pub number_at : word2 book (get_or r.places i 0 + 1) ≡ (entry_at es i).number
     number_at =
         sym ((rw stood.at.is at (record_long (drop at book))).1 ∙ word2_there book at 0 (at + 1) (omega arith)) ∙ ap (λ (e : Entry). e.number) entry_is
 
-    pub meets_at : word2 book (get_or places i 0 + 3) ≡ (entry_at es i).meets
+    pub meets_at : word2 book (get_or r.places i 0 + 3) ≡ (entry_at es i).meets
     meets_at =
         sym ((rw stood.at.is at (record_long (drop at book))).2 ∙ word2_there book at 2 (at + 3) (omega arith)) ∙ ap (λ (e : Entry). e.meets) entry_is
 
-    pub corners_at_lem : word2 book (get_or places i 0 + 5) ≡ length (entry_at es i).corners
+    pub corners_at_lem : word2 book (get_or r.places i 0 + 5) ≡ length (entry_at es i).corners
     corners_at_lem =
         sym ((rw stood.at.is at (record_long (drop at book))).3 ∙ word2_there book at 4 (at + 5) (omega arith))
         ∙ (told_right took.told i stood.route stood.here took.right).said ∙ ap (λ (e : Entry). length e.corners) entry_is
 
-    module _ (newer : h.grouped ≡ true) where
-      pub newer_room : get_or places i 0 + 9 ≤ length book
+    module _ (newer : r.head.grouped ≡ true) where
+      pub newer_room : get_or r.places i 0 + 9 ≤ length book
       unfolding route_size
       newer_room = rw newer at route_room
 
-      pub centre_at : word2 book (get_or places i 0 + 7) ≡ (entry_at es i).centre
+      pub centre_at : word2 book (get_or r.places i 0 + 7) ≡ (entry_at es i).centre
       centre_at =
           sym ((rw stood.at.is at (record_long (drop at book))).4 ∙ ap (λ g. cond g (word2 (drop 1 (drop at book)) 6) 0) newer ∙ word2_there book at 6 (at + 7) (omega arith))
           ∙ ap (λ (e : Entry). e.centre) entry_is
 
-      right : RightEntry h.grouped (entry_at es i)
-      right = all_member (RightEntry h.grouped) (accepted_right book h es R.bytes R.parsed).entries (index_member (entry_at [] 0) es i k)
+      right : RightEntry r.head.grouped (entry_at es i)
+      right = all_member (RightEntry r.head.grouped) (accepted_right book r.head es R.bytes R.parsed).entries (index_member (entry_at [] 0) es i k)
 
-      stand : CornersAt book (get_or places i 0 + 9) (begun stood.walk) (entry_at es i).corners
+      stand : CornersAt book (get_or r.places i 0 + 9) (begun stood.walk) (entry_at es i).corners
       unfolding route_size
       stand =
           subst (λ (e : Entry). CornersAt book (at + 9) (begun stood.walk) e.corners) entry_is
@@ -138,7 +138,7 @@ module _ (book places : List ℕ) (h : Head) (es : List Entry) (R : ReadAs book 
       last_room (suc n) e p = omega (arith, (there n (omega arith)).0)
 
       -- the corners of route i
-      pub route_drawn : Drawn book (get_or places i 0 + 9) (entry_at es i).corners
+      pub route_drawn : Drawn book (get_or r.places i 0 + 9) (entry_at es i).corners
       route_drawn =
           let cs = (entry_at es i).corners in
           record {

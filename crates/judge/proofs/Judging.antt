@@ -3,6 +3,7 @@ use mathlib.Core.Path.{◌≡◌, refl, sym, ap, ◌∙◌}
 use mathlib.Core.Bool.{Bool, true, false, ◌&&◌}
 use mathlib.Core.List.{List}
 use Prim.Native.Nat.{ℕ, ◌<◌}
+use Rattle.std.specs.Prelude.{Ok, Err}
 use native.Mathlib.Omega.{arith}
 use borrow.Author.Tests.{eq-eqb, ne_eqb, eqb-true}
 use lib.Dec.{eqb}
@@ -21,7 +22,6 @@ use Rattle.planner.specs.Call.{runs_of}
 use Rattle.planner.specs.Held.{runs_in}
 use Rattle.planner.proofs.Held.{length_held, length_plane}
 use Rattle.judge.specs.declared.Known.{Known}
-use Rattle.judge.specs.declared.Judgement.TheVariants.{Passed, Refused}
 use Rattle.judge.specs.True.{drawn_in}
 use Rattle.judge.specs.Judged.{is_manhattan, entry_at, is_of, is_true, judgement_of}
 use Rattle.judge.specs.Steps.{Knows, is_measured}
@@ -130,14 +130,14 @@ module _ (k : Known) (K : Knows k) (h : Head) (es : List Entry) where
 -- ---- the judgement
 
 module _ (number : ℕ) (runs : List Read) (place : ℕ) (h : Head) (es : List Entry) where
-  pub of_another : false ≡ is_of number runs h es → Refused (OtherJob place) ≡ judgement_of number runs place (accepted h es)
+  pub of_another : false ≡ is_of number runs h es → Err (OtherJob place) ≡ judgement_of number runs place (accepted h es)
   unfolding judgement_of
   of_another e = rw (← e)
 
-  pub not-true : true ≡ is_of number runs h es → false ≡ is_true runs h es → Refused (Untrue place) ≡ judgement_of number runs place (accepted h es)
+  pub not-true : true ≡ is_of number runs h es → false ≡ is_true runs h es → Err (Untrue place) ≡ judgement_of number runs place (accepted h es)
   unfolding judgement_of
   not-true e f = rw (← e, ← f)
 
-  pub passes_both : true ≡ is_of number runs h es → true ≡ is_true runs h es → Passed h.trench ≡ judgement_of number runs place (accepted h es)
+  pub passes_both : true ≡ is_of number runs h es → true ≡ is_true runs h es → Ok h.trench ≡ judgement_of number runs place (accepted h es)
   unfolding judgement_of
   passes_both e f = rw (← e, ← f)

@@ -20,11 +20,13 @@ use Rattle.grid.specs.Runs.{runs_held}
 use Rattle.job.specs.declared.Job.{Job}
 use Rattle.job.specs.Fields.{word2}
 use Rattle.job.specs.Written.{InRange}
-use Rattle.plan.specs.declared.Head.{Head}
+use Rattle.book.specs.declared.Reading.{Reading}
 use Rattle.plan.specs.Plan.{Entry}
 use Rattle.measure.specs.Marks.{places, edge_on, edge_behind, cell, is_marked, Told, Ruled}
 use Rattle.planner.specs.Held.{run_in, Held}
 use Rattle.planner.proofs.Held.{length_held, held_at, plane_held}
+use Rattle.grid.specs.declared.Axis.{Axis}
+use Rattle.judge.specs.declared.routes.Marks.{Marks}
 use Rattle.judge.specs.True.{drawn_in}
 use Rattle.judge.specs.Judged.{entry_at}
 use Rattle.judge.specs.Steps.{ReadAs, Lines, Shown, RouteMarked}
@@ -60,9 +62,9 @@ edges_more g d routes route a k =
     ∙ and-or_distrib_left b (any (on e) routes) (on e route))
 
 -- a route that is marked is told with the others
-told_more : (g : Grid) (routes : List Route) (route : Route) (corners right up corners' right' up' : List ℕ) → Told g routes corners right up
-    → RouteMarked g route corners right up corners' right' up' → Told g (routes ++ route ∷ []) corners' right' up'
-told_more g routes route corners right up corners' right' up' t m =
+told_more : (g : Grid) (routes : List Route) (route : Route) (ms ns : Marks) → Told g routes ms.corners ms.right ms.up
+    → RouteMarked g route ms ns → Told g (routes ++ route ∷ []) ns.corners ns.right ns.up
+told_more g routes route ms ns t m =
     record {
       at_corners = λ i j h k. m.at_corners.marked i j h k
           ∙ ap (λ b. b || among (vertex g i j) route) (t.at_corners i j h k)
@@ -76,42 +78,42 @@ told_more g routes route corners right up corners' right' up' t m =
     }
 
 -- the first i routes of a book, and the next
-pub told_next : (g : Grid) (es : List Entry) (i : ℕ) (corners right up corners' right' up' : List ℕ) → i < length es → Told g (take i (drawn_in es)) corners right up
-    → RouteMarked g (entry_at es i).corners corners right up corners' right' up' → Told g (take (i + 1) (drawn_in es)) corners' right' up'
-told_next g es i corners right up corners' right' up' h t m =
+pub told_next : (g : Grid) (es : List Entry) (i : ℕ) (ms ns : Marks) → i < length es → Told g (take i (drawn_in es)) ms.corners ms.right ms.up
+    → RouteMarked g (entry_at es i).corners ms ns → Told g (take (i + 1) (drawn_in es)) ns.corners ns.right ns.up
+told_next g es i ms ns h t m =
     let l : i < length (drawn_in es) = omega (arith, length-map es (λ (e : Entry). e.corners)) in
     let next : take i (drawn_in es) ++ ((entry_at es i).corners ∷ []) ≡ take (i + 1) (drawn_in es) =
     sym
     (ap (λ n. take n (drawn_in es)) (add-one i)
     ∙ take-suc (drawn_in es) i [] l
     ∙ ap (λ r. take i (drawn_in es) ++ (r ∷ [])) (drawn_at es i)) in
-    subst (λ (routes : List Route). Told g routes corners' right' up') next
-    (told_more g (take i (drawn_in es)) (entry_at es i).corners corners right up corners' right' up' t m)
+    subst (λ (routes : List Route). Told g routes ns.corners ns.right ns.up) next
+    (told_more g (take i (drawn_in es)) (entry_at es i).corners ms ns t m)
 
 -- ---- run i of a job, and route i of a book
 
 -- the runs of the job, as its arrays hold them
 abbrev pub plane_of : Job → List Run
-plane_of j = runs_held j.x1 j.y1 j.x2 j.y2 j.count
+plane_of j = runs_held j.x.first j.y.first j.x.second j.y.second j.count
 
 -- run i is in range
 pub run_in_range : (j : Job) → Held j → (i : ℕ) → i < j.count → InRange (run_in j i)
 run_in_range j h i l = subst InRange (held_at j i l) (h.well_formed.in_range i (omega (arith, length_held j)))
 
 -- the record of each route is there, and says at most 127 corners
-pub routes_there : (book places : List ℕ) (n : ℕ) (h : Head) (es : List Entry) → ReadAs book places h es → h.runs ≡ n → h.grouped ≡ true
-    → (k : ℕ) → k < n → (get_or places k 0 + 9 ≤ length book) × (word2 book (get_or places k 0 + 5) ≤ 127)
-routes_there book places n h es R e newer k l =
-    let m : k < length es = omega (arith, count_read book places h es R) in
-    (newer_room book places h es R k m newer, omega (arith, corners_at_lem book places h es R k m, (route_drawn book places h es R k m newer).few))
+pub routes_there : (book : List ℕ) (n : ℕ) (r : Reading) (es : List Entry) → ReadAs book r es → r.head.runs ≡ n → r.head.grouped ≡ true
+    → (k : ℕ) → k < n → (get_or r.places k 0 + 9 ≤ length book) × (word2 book (get_or r.places k 0 + 5) ≤ 127)
+routes_there book n r es R e newer k l =
+    let m : k < length es = omega (arith, count_read book r es R) in
+    (newer_room book r es R k m newer, omega (arith, corners_at_lem book r es R k m, (route_drawn book r es R k m newer).few))
 
 -- its route stands in the book, and the lines of the job's grid in the tables
-pub route_shown : (j : Job) (book places columns rows : List ℕ) (across down : ℕ) (h : Head) (es : List Entry) → ReadAs book places h es → h.grouped ≡ true
-    → Lines j columns across rows down → (i : ℕ) → i < length es → (many : ℕ) → many ≡ word2 book (get_or places i 0 + 5)
-    → Shown (hanan (plane_of j)) (entry_at es i).corners book (get_or places i 0 + 9) many columns across rows down
-route_shown j book places columns rows across down h es R newer lines i l many e =
+pub route_shown : (j : Job) (book : List ℕ) (columns rows : Axis) (r : Reading) (es : List Entry) → ReadAs book r es → r.head.grouped ≡ true
+    → Lines j columns rows → (i : ℕ) → i < length es → (many : ℕ) → many ≡ word2 book (get_or r.places i 0 + 5)
+    → Shown (hanan (plane_of j)) (entry_at es i).corners book (get_or r.places i 0 + 9) many columns rows
+route_shown j book columns rows r es R newer lines i l many e =
     record {
-      drawn = route_drawn book places h es R i l newer;
-      many = e ∙ corners_at_lem book places h es R i l;
-      ruled = subst (λ (plane : List Run). Ruled (hanan plane) columns across rows down) (plane_held j) lines.0;
+      drawn = route_drawn book r es R i l newer;
+      many = e ∙ corners_at_lem book r es R i l;
+      ruled = subst (λ (plane : List Run). Ruled (hanan plane) columns.lines columns.count rows.lines rows.count) (plane_held j) lines.0;
     }

@@ -76,16 +76,16 @@ module _ (j : Job) (held : Held j) where
   columns_near =
       let r = held_range j held in
       subst (λ (l : List ℕ). (i : ℕ) → i < length l → get_or l i 0 ≤ 2000000)
-      (sym (ap (λ (plane : List Run). (hanan plane).columns) (plane_held j) ∙ columns_are j.x1 j.y1 j.x2 j.y2 j.count))
-      (lines_below j.x1 j.x2 j.count 2000000 (λ k l. (r.x1_in k l, r.x2_in k l)))
+      (sym (ap (λ (plane : List Run). (hanan plane).columns) (plane_held j) ∙ columns_are j.x.first j.y.first j.x.second j.y.second j.count))
+      (lines_below j.x.first j.x.second j.count 2000000 (λ k l. (r.x1_in k l, r.x2_in k l)))
 
   -- and so are its rows
   rows_near : (i : ℕ) → i < length (hanan (runs_of (runs_in j))).rows → get_or (hanan (runs_of (runs_in j))).rows i 0 ≤ 2000000
   rows_near =
       let r = held_range j held in
       subst (λ (l : List ℕ). (i : ℕ) → i < length l → get_or l i 0 ≤ 2000000)
-      (sym (ap (λ (plane : List Run). (hanan plane).rows) (plane_held j) ∙ rows_are j.x1 j.y1 j.x2 j.y2 j.count))
-      (lines_below j.y1 j.y2 j.count 2000000 (λ k l. (r.y1_in k l, r.y2_in k l)))
+      (sym (ap (λ (plane : List Run). (hanan plane).rows) (plane_held j) ∙ rows_are j.x.first j.y.first j.x.second j.y.second j.count))
+      (lines_below j.y.first j.y.second j.count 2000000 (λ k l. (r.y1_in k l, r.y2_in k l)))
 
   module _ (columns rows : Axis) (lined : Lined (runs_of (runs_in j)) columns rows) where
     -- the job's grid
@@ -93,7 +93,7 @@ module _ (j : Job) (held : Held j) where
     g = hanan (runs_of (runs_in j))
 
     -- the axes have the lines of the job's grid
-    pub lines_held : Lines j columns.lines columns.count rows.lines rows.count
+    pub lines_held : Lines j columns rows
     lines_held =
         let x = axis_count columns g.columns lined.columns_are in
         let y = axis_count rows g.rows lined.rows_are in

@@ -1,6 +1,6 @@
 -- How a book is judged for a job: "for the first book the refusal that the C-12 reader gives, then 15, then 16 .. for a book's refusal the place is 1 or 2, the
 -- book" (02, C-17). Everything here can be computed; that the two tests together say `True`, and no more, is `true_iff`.
-use Rattle.std.specs.Prelude.{Bool, false, cond, ◌&&◌, ◌||◌, List, [], ◌∷◌, ℕ, eqb, length, get_or}
+use Rattle.std.specs.Prelude.{Bool, false, cond, ◌&&◌, ◌||◌, List, [], ◌∷◌, ℕ, eqb, length, get_or, Result, Ok, Err}
 use Rattle.network.specs.Lists.{sum, any, every}
 use Rattle.network.specs.Plane.{Point, Run, distance, same_point}
 use Rattle.network.specs.Grid.{Grid}
@@ -31,8 +31,6 @@ use Rattle.plan.specs.declared.Head.{Head}
 use Rattle.plan.specs.Plan.{Entry, head_of, meets_of, centre_figure}
 use Rattle.book.specs.Parse.{Parsed, accepted, refused}
 use Rattle.planner.specs.Call.{runs_of, numbers_of}
-use Rattle.judge.specs.declared.Judgement.{Judgement}
-use Rattle.judge.specs.declared.Judgement.TheVariants.{Passed, Refused}
 use Rattle.judge.specs.True.{drawn_in}
 
 -- ---- a Manhattan path, tested
@@ -107,7 +105,7 @@ of_book place (Untrue at) = Untrue place
 of_book place (Coincident at) = Coincident place
 
 -- of the first book or of the second, by what the reader says of it: its trench figure, or its refusal
-unfoldable pub judgement_of : (number : ℕ) (runs : List Read) (place : ℕ) → Parsed → Judgement
-judgement_of number runs place (refused x) = Refused (of_book place x)
+unfoldable pub judgement_of : (number : ℕ) (runs : List Read) (place : ℕ) → Parsed → Result ℕ Refusal
+judgement_of number runs place (refused x) = Err (of_book place x)
 judgement_of number runs place (accepted h es) =
-    cond (is_of number runs h es) (cond (is_true runs h es) (Passed h.trench) (Refused (Untrue place))) (Refused (OtherJob place))
+    cond (is_of number runs h es) (cond (is_true runs h es) (Ok h.trench) (Err (Untrue place))) (Err (OtherJob place))

@@ -12,10 +12,9 @@ ghost use Rattle.planner.specs.Stages.{Leased};
 ghost use Rattle.judge.specs.Judged.{of_book, judgement_of, is_true};
 ghost use Rattle.judge.specs.Steps.{ReadAs, Knows};
 
-use book::Answer;
+use book::Reading;
 use grid::Axis;
 use job::Job;
-use plan::Head;
 use refusal::Refusal;
 
 // What is known of a job before a book of it is looked at: the meets figure of each run, the run number of its group's centre, the number of groups, the sum of
@@ -31,33 +30,21 @@ pub struct Known {
     pub rows: Axis,
 }
 
-// What is judged of a book: its trench figure, or why it is refused.
-#[derive(Clone, Copy)]
-pub enum Judgement {
-    Passed(u32),
-    Refused(Refusal),
-}
-
 // What is known of a job whose groups are stars with the given centres.
-pub fn known_of(j: Job, neighbours: [u32; 32], centres: [usize; 32]) -> Known
-    requires { Leased j neighbours centres }
-    ensures { (result.job ≡ j) × Knows result }
+pub fn known_of(j: &Job, neighbours: &[u32; 32], centres: &[usize; 32]) -> Known
+    requires { Leased j.now neighbours.now centres.now }
+    ensures { (result.job ≡ j.now) × Knows result }
 {
-    let groups = intersection::finder::count_groups(&centres, j.count);
+    let groups = intersection::finder::count_groups(centres, j.count);
     let mut meets = [0u32; 32];
-    figures::tell_meets(&neighbours, j.count, &mut meets);
-    let numbers = j.numbers;
+    figures::tell_meets(neighbours, j.count, &mut meets);
     let mut middles = [0u32; 32];
-    figures::tell_centres(&numbers, &centres, j.count, &mut middles);
-    let x1 = j.x1;
-    let y1 = j.y1;
-    let x2 = j.x2;
-    let y2 = j.y2;
-    let total = figures::total_distance(&x1, &y1, &x2, &y2, j.count);
-    let columns = grid::axis_of(&x1, &x2, j.count);
-    let rows = grid::axis_of(&y1, &y2, j.count);
+    figures::tell_centres(&j.numbers, centres, j.count, &mut middles);
+    let total = figures::total_distance(&j.x, &j.y, j.count);
+    let columns = Axis::of(&j.x, j.count);
+    let rows = Axis::of(&j.y, j.count);
     Known {
-        job: j,
+        job: *j,
         meets,
         centres: middles,
         groups,
@@ -92,53 +79,44 @@ fn of_book(refusal: Refusal, place: usize) -> Refusal
 }
 
 // Whether a book of the job is true: its kinds, the figures of its runs, and what is measured on its routes.
-fn is_true(book: &[u8], head: Head, places: &[u32; 33], known: Known) -> bool
-    requires { Knows known × ((es : List Entry) × ReadAs book.now places.now head es × (head.runs ≡ known.job.count)) }
-    ensures { (es : List Entry) → ReadAs book.now places.now head es → result ≡ is_true (runs_in known.job) head es }
+fn is_true(book: &[u8], reading: &Reading, known: &Known) -> bool
+    requires { Knows known.now × ((es : List Entry) × ReadAs book.now reading.now es) × (reading.now.head.runs ≡ known.now.job.count) }
+    ensures { (es : List Entry) → ReadAs book.now reading.now es → result ≡ is_true (runs_in known.now.job) reading.now.head es }
 {
-    if !head.grouped {
+    if !reading.head.grouped {
         return false;
     }
-    let meets = known.meets;
-    let centres = known.centres;
-    let j = known.job;
-    if !compared::are_those(book, places, &meets, &centres, j.count) {
+    if !compared::are_those(book, reading, known) {
         return false;
     }
-    if book::wide(head.last) != known.groups {
+    if book::wide(reading.head.last) != known.groups {
         return false;
     }
-    let columns = known.columns;
-    let rows = known.rows;
-    routes::are_measured(book, head, places, j, columns, rows, known.total)
+    routes::are_measured(book, reading, known)
 }
 
 // A book that was read is judged.
-fn judge_read(book: &[u8], head: Head, places: &[u32; 33], place: usize, known: Known) -> Judgement
-    requires { Knows known × ((es : List Entry) × ReadAs book.now places.now head es) }
-    ensures { (es : List Entry) → ReadAs book.now places.now head es
-        → result ≡ judgement_of known.job.number (runs_in known.job) place (accepted head es) }
+fn judge_read(book: &[u8], reading: &Reading, place: usize, known: &Known) -> Result<u32, Refusal>
+    requires { Knows known.now × ((es : List Entry) × ReadAs book.now reading.now es) }
+    ensures { (es : List Entry) → ReadAs book.now reading.now es
+        → result ≡ judgement_of known.now.job.number (runs_in known.now.job) place (accepted reading.now.head es) }
 {
-    if !compared::is_of(book, head, places, known.job) {
-        return Judgement::Refused(Refusal::OtherJob(place));
+    if !compared::is_of(book, reading, &known.job) {
+        return Err(Refusal::OtherJob(place));
     }
-    if !is_true(book, head, places, known) {
-        return Judgement::Refused(Refusal::Untrue(place));
+    if !is_true(book, reading, known) {
+        return Err(Refusal::Untrue(place));
     }
-    Judgement::Passed(head.trench)
+    Ok(reading.head.trench)
 }
 
-// Judges a book, the first of a call or the second, for the job that is known.
-pub fn judge(book: &[u8], place: usize, known: Known) -> Judgement
-    requires { Knows known }
-    ensures { result ≡ judgement_of known.job.number (runs_in known.job) place (parse_plan book.now) }
+// Judges a book, the first of a call or the second, for the job that is known: its trench figure, or why it is refused.
+pub fn judge(book: &[u8], place: usize, known: &Known) -> Result<u32, Refusal>
+    requires { Knows known.now }
+    ensures { result ≡ judgement_of known.now.job.number (runs_in known.now.job) place (parse_plan book.now) }
 {
-    let reading = book::read(book);
-    let answer = reading.answer;
-    let head = reading.head;
-    let places = reading.places;
-    match answer {
-        Answer::Accepted => judge_read(book, head, &places, place, known),
-        Answer::Refused(refusal) => Judgement::Refused(of_book(refusal, place)),
+    match book::read(book) {
+        Ok(reading) => judge_read(book, &reading, place, known),
+        Err(refusal) => Err(of_book(refusal, place)),
     }
 }

@@ -5,7 +5,7 @@ use Prim.Native.Nat.{ℕ, zero, suc, ◌+◌, ◌*◌, ◌-◌, ◌≤◌, ◌<�
 use native.Mathlib.Nat.{suc-mul, mul-le-mul_right}
 use native.Mathlib.Decide.{dec_le}
 use native.Mathlib.Omega.{arith}
-use borrow.Rule.Slice.PartMut.{mid_of, put_mid, same_len_mid, mid_len, take_put, drop_put}
+use borrow.Rule.Slice.PartMut.{mid_of, put_mid, mid_len, take_put, drop_put}
 use lib.ListN.{length, take, drop}
 use lib.Seq.{take-take, drop-drop, take_at, drop_at, length-take-le}
 use Rattle.table.specs.Side.{Side}
@@ -39,10 +39,6 @@ module _ (stride k : ℕ) (old new : List ℕ) (within : k * stride + stride ≤
 
   width : k * stride + stride - k * stride ≡ stride
   width = omega arith
-
-  -- they are as many
-  pub written_length : length written ≡ length old
-  written_length = same_len_mid (k * stride) (k * stride + stride - k * stride) old new (size ∙ sym width ∙ sym (mid_len (k * stride) (k * stride + stride) old within))
 
   -- run k has the new ones
   pub block_here : block_of written stride k ≡ new

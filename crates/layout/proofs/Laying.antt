@@ -7,7 +7,8 @@ use Prim.Native.Nat.{ℕ, suc, ◌+◌, ◌-◌, ◌≤◌, ◌<◌}
 use native.Mathlib.Nat.{le_of_suc-le-suc}
 use native.Mathlib.Omega.{arith}
 use borrow.Author.Tests.{eq-eqb, ne_eqb}
-use lib.ListN.{length, length-map, get_or, take, length-take}
+use lib.ListN.{length, length-map, get_or, take, drop, length-take}
+use Rattle.std.proofs.lemmas.List.{length-drop, drop-take}
 use lib.Seq.{slice, slice-cons, take-take}
 use Rattle.network.specs.Plane.{gap}
 use Rattle.network.specs.Steps.{Dir, hor, ver, steps}
@@ -15,7 +16,8 @@ use Rattle.sharing.specs.Trace.{Move}
 use Rattle.sharing.specs.Walk.{dirs, moved}
 use Rattle.sharing.specs.Leaf.{before, stretch, turn_if, via}
 use Rattle.sharing.specs.View.{index}
-use Rattle.table.specs.Walk.{Trace, moves_of}
+use Rattle.table.specs.declared.trace.Trace.{Trace}
+use Rattle.table.specs.Walk.{moves_of}
 use Rattle.table.proofs.Lines.{gap_lt}
 use Rattle.route.specs.Route.{dir_of, steps_of}
 use Rattle.network.proofs.StepCounts.{steps_all}
@@ -104,9 +106,9 @@ module _ (a : Points) (c : ℕ) (moves : Trace) (S : Layable a a c (moves_of mov
 
     -- its steps are its moves
     pub laid_centre : length moves.steps ≡ 128 → (old new : List ℕ) (next : ℕ) → apart a e c (moves_of moves) k l ≤ length old
-        → Longer old 0 (moves.count - 0) (map dir_of (slice 0 moves.count moves.steps)) new next → Laid a e c (moves_of moves) k new
+        → Longer old 0 (length (take moves.count moves.steps)) (map dir_of (take moves.count moves.steps)) new next → Laid a e c (moves_of moves) k new
     laid_centre full old new next room p =
-        laid_grown a e c (moves_of moves) k l _ _ old new next p (omega (arith, centre_count)) room
+        laid_grown a e c (moves_of moves) k l _ _ old new next p (omega (arith, centre_count, centre_few, length-take moves.count moves.steps)) room
         (rw (eq-eqb k c h) (sym (dirs_moves moves.steps moves.shares moves.count (omega (arith, centre_few)))))
 
 -- ---- a leaf that shares nothing
@@ -178,6 +180,20 @@ module _ (a e : Points) (c : ℕ) (moves : Trace) (k : ℕ) (s : Stretch) (full 
       let (i, j) = across_few moves k s count_fits t h.ready.found h.some in
       (i, j, omega (arith, stretch_fits moves k s count_fits t h.ready.found h.some, centre_few a c moves h.ready.centre_layable))
 
+  -- the steps of its stretch, as the code lends them
+  abbrev pub walked : List ℕ
+  walked = take (s.from + s.size - s.from) (drop s.from moves.steps)
+
+  walked_is : walked ≡ slice s.from (s.from + s.size) moves.steps
+  walked_is = let e : s.from + s.size - s.from ≡ s.size = omega arith in rw e (sym (drop-take s.from s.size moves.steps))
+
+  pub walked_length : length walked ≡ s.size
+  walked_length =
+      omega (arith, full, leaf_few, length-take (s.from + s.size - s.from) (drop s.from moves.steps), length-drop s.from moves.steps)
+
+  walked_first : get_or walked 0 0 ≡ get_or moves.steps s.from 0
+  walked_first = ap (λ l. get_or l 0 0) (walked_is ∙ slice-cons s.from (s.from + s.size) moves.steps 0 (omega (arith, h.some)) (omega (arith, full, leaf_few)))
+
   module _ (x y : Way) (ex : x ≡ way_across) (ey : y ≡ way_up) where
     -- which way it passes the stretch, by the ways that the code has found
     abbrev pub forth_of : Bool
@@ -199,8 +215,10 @@ module _ (a e : Points) (c : ℕ) (moves : Trace) (k : ℕ) (s : Stretch) (full 
 
     -- a leg, the stretch and a leg
     pub laid_leaf : (o p q r : List ℕ) (i j d : ℕ) → apart a e c (moves_of moves) k h.ready.layable ≤ length o
-        → Longer o 0 (x.before + y.before) (leg_of x.before y.before) p i → Longer p i (s.from + s.size - s.from) (turn_if forth_of part) q j
+        → Longer o 0 (x.before + y.before) (leg_of x.before y.before) p i
+        → Longer p i (length walked) (turn_if (passes_forth (get_or walked 0 0) x.forward y.forward) (map dir_of walked)) q j
         → Longer q j (x.after + y.after) (leg_of x.after y.after) r d → Laid a e c (moves_of moves) k r
     laid_leaf o p q r i j d room f g l =
-        let all = longer_more o 0 _ _ q j _ _ r d (longer_more o 0 _ _ p i _ _ q j f g) l in
-        laid_grown a e c (moves_of moves) k h.ready.layable _ _ o r d all (omega (arith, leaf_count)) room found_steps
+        let turned = rw (walked_first, walked_is) at g in
+        let all = longer_more o 0 _ _ q j _ _ r d (longer_more o 0 _ _ p i _ _ q j f turned) l in
+        laid_grown a e c (moves_of moves) k h.ready.layable _ _ o r d all (omega (arith, leaf_count, ap length walked_is, walked_length)) room found_steps

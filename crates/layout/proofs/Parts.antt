@@ -13,7 +13,8 @@ use Rattle.network.specs.Steps.{ver}
 use Rattle.sharing.specs.Trace.{Move}
 use Rattle.sharing.specs.Walk.{dirs, moved}
 use Rattle.sharing.specs.Leaf.{before, stretch}
-use Rattle.table.specs.Walk.{Trace, dir_by, move_at, moves_of}
+use Rattle.table.specs.declared.trace.Trace.{Trace}
+use Rattle.table.specs.Walk.{dir_by, move_at, moves_of}
 use Rattle.route.specs.Route.{dir_of}
 use Rattle.network.proofs.StepCounts.{steps_all}
 use Rattle.layout.specs.declared.Stretch.{Stretch}

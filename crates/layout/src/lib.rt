@@ -3,20 +3,21 @@
 // the leaf that it is shared with (32 or above: none).
 #![tactic(auto)]
 
-ghost use Rattle.std.specs.Prelude.{◌≡◌, cond, List, map, reverse, ℕ, ◌+◌, ◌-◌, ◌≤◌, ◌<◌, length, get_or};
-ghost use Rattle.std.proofs.Math.Seq.{slice};
+ghost use Rattle.std.specs.Prelude.{◌≡◌, cond, [], map, reverse, ℕ, ◌+◌, ◌≤◌, ◌<◌, length, get_or};
 ghost use Rattle.network.specs.Plane.{gap};
 ghost use Rattle.network.specs.Steps.{hor, ver};
 ghost use Rattle.sharing.specs.View.{index};
 ghost use Rattle.sharing.specs.Leaf.{turn_if};
 ghost use Rattle.route.specs.Route.{dir_of};
-ghost use Rattle.table.specs.Walk.{trace_of, moves_of};
-ghost use Rattle.layout.specs.Points.{OnLines, number_of};
+ghost use Rattle.table.specs.Side.{side_of};
+ghost use Rattle.table.specs.Walk.{moves_of};
+ghost use Rattle.layout.specs.Points.{OnLines, number_of, points_of};
 ghost use Rattle.layout.specs.Stretch.{along_row, grown};
 ghost use Rattle.layout.specs.Way.{way_of, passes_forth, leg_of};
 ghost use Rattle.layout.specs.Laid.{Longer, route_to, Ready, Stretched, Laid};
 
-use table::frame::gap;
+use job::Spans;
+use table::trace::Trace;
 
 // The moves that are shared with a leaf: `size` moves from index `from` on. Of the moves before them `across` go along the row, and of themselves
 // `wide`.
@@ -52,34 +53,26 @@ pub struct Way {
 
 // ---- steps that grow
 
-// Writes the steps from index `from` up to `upto` at index `at` on, and gives the index behind them.
-fn forth(to: &mut [u8], at: usize, steps: &[u8; 128], from: usize, upto: usize) -> usize
-    requires { (from ≤ upto) × (upto ≤ 128) × (at + (upto - from) ≤ length to.old) × (length steps.now ≡ 128) }
-    ensures { Longer to.old at (upto - from) (map dir_of (slice from upto steps.now)) to.new result }
+// Writes the steps of a part of a walk at index `at` on, and gives the index behind them.
+fn forth(to: &mut [u8], at: usize, part: &[u8]) -> usize
+    requires { at + length part.now ≤ length to.old }
+    ensures { Longer to.old at (length part.now) (map dir_of part.now) to.new result }
 {
-    let mut k = at;
-    let mut i = from;
-    while i < upto {
-        to[k] = steps[i];
-        k += 1;
-        i += 1;
-    }
-    k
+    let end = at + part.len();
+    to[at..end].copy_from_slice(part);
+    end
 }
 
 // The same steps, the last one first.
-fn back(to: &mut [u8], at: usize, steps: &[u8; 128], from: usize, upto: usize) -> usize
-    requires { (from ≤ upto) × (upto ≤ 128) × (at + (upto - from) ≤ length to.old) × (length steps.now ≡ 128) }
-    ensures { Longer to.old at (upto - from) (reverse (map dir_of (slice from upto steps.now))) to.new result }
+fn back(to: &mut [u8], at: usize, part: &[u8]) -> usize
+    requires { at + length part.now ≤ length to.old }
+    ensures { Longer to.old at (length part.now) (reverse (map dir_of part.now)) to.new result }
 {
-    let mut k = at;
-    let mut i = upto;
-    while from < i {
-        i -= 1;
-        to[k] = steps[i];
-        k += 1;
+    let size = part.len();
+    for i in 0..size {
+        to[at + i] = part[size - 1 - i];
     }
-    k
+    at + size
 }
 
 // A step of a leg, along the row or along the column.
@@ -94,15 +87,11 @@ fn leg(to: &mut [u8], at: usize, across: usize, up: usize) -> usize
     requires { at + (across + up) ≤ length to.old }
     ensures { Longer to.old at (across + up) (leg_of across up) to.new result }
 {
-    let mut k = at;
     let n = across + up;
-    let mut i: usize = 0;
-    while i < n {
-        to[k] = leg_step(i < across);
-        k += 1;
-        i += 1;
+    for i in 0..n {
+        to[at + i] = leg_step(i < across);
     }
-    k
+    at + n
 }
 
 // Which way a run that goes `right` along the row and `up` along the column passes a stretch that begins with the step.
@@ -112,24 +101,15 @@ fn passes_forth(step: u8, right: bool, up: bool) -> bool
     if step == 0 { right } else { up }
 }
 
-// Writes the stretch from index `from` up to `upto`.
-fn along(
-    to: &mut [u8],
-    at: usize,
-    steps: &[u8; 128],
-    from: usize,
-    upto: usize,
-    right: bool,
-    up: bool,
-) -> usize
-    requires { (from < upto) × (upto ≤ 128) × (at + (upto - from) ≤ length to.old) × (length steps.now ≡ 128) }
-    ensures { Longer to.old at (upto - from)
-        (turn_if (passes_forth (get_or steps.now from 0) right up) (map dir_of (slice from upto steps.now))) to.new result }
+// Writes the steps of a stretch.
+fn along(to: &mut [u8], at: usize, part: &[u8], right: bool, up: bool) -> usize
+    requires { (0 < length part.now) × (at + length part.now ≤ length to.old) }
+    ensures { Longer to.old at (length part.now) (turn_if (passes_forth (get_or part.now 0 0) right up) (map dir_of part.now)) to.new result }
 {
-    if passes_forth(steps[from], right, up) {
-        return forth(to, at, steps, from, upto);
+    if passes_forth(part[0], right, up) {
+        return forth(to, at, part);
     }
-    back(to, at, steps, from, upto)
+    back(to, at, part)
 }
 
 // ---- where the moves shared with each leaf stand
@@ -141,34 +121,24 @@ pub fn along_row(step: u8) -> u8
     if step == 0 { 1 } else { 0 }
 }
 
-// The stretch with the move i more, before which `across` moves go along the row.
-pub fn with_move(s: Stretch, i: u8, across: u8, step: u8) -> Stretch
-    requires { (s.size < 255) × (s.wide < 255) }
-    ensures { result ≡ grown s i across step }
-{
-    let wide = s.wide + along_row(step);
-    let size = s.size + 1;
-    if s.size == 0 {
-        return Stretch {
-            from: i,
-            size,
-            across,
-            wide,
-        };
+impl Stretch {
+    // The stretch with the move i more, before which `across` moves go along the row.
+    pub fn with_move(self, i: u8, across: u8, step: u8) -> Self
+        requires { (self.size < 255) × (self.wide < 255) }
+        ensures { result ≡ grown self i across step }
+    {
+        let wide = self.wide + along_row(step);
+        let size = self.size + 1;
+        if self.size == 0 {
+            return Stretch {
+                from: i,
+                size,
+                across,
+                wide,
+            };
+        }
+        Stretch { size, wide, ..self }
     }
-    Stretch {
-        from: s.from,
-        size,
-        across: s.across,
-        wide,
-    }
-}
-
-// The leaf that a move is shared with, as an index.
-pub fn wide(x: u8) -> usize
-    ensures { result ≡ x }
-{
-    x as usize
 }
 
 // ---- the ways of a run
@@ -190,14 +160,14 @@ fn way_by(p: usize, q: usize, near: usize, n: usize) -> Way
     let far = near + n;
     if p <= q {
         return Way {
-            before: gap(p, near),
-            after: gap(far, q),
+            before: p.abs_diff(near),
+            after: far.abs_diff(q),
             forward: true,
         };
     }
     Way {
-        before: gap(p, far),
-        after: gap(near, q),
+        before: p.abs_diff(far),
+        after: near.abs_diff(q),
         forward: false,
     }
 }
@@ -216,28 +186,30 @@ fn way_of(centre: Ends, leaf: Ends, passed: usize, n: usize) -> Way
 
 // ---- the routes
 
-// The points (x1, y1) and (x2, y2).
-pub fn both_points(x1: u32, y1: u32, x2: u32, y2: u32) -> Points
-    ensures { result ≡ record { x = record { first = x1; second = x2 }; y = record { first = y1; second = y2 } } }
-{
-    Points {
-        x: Ends {
-            first: x1,
-            second: x2,
-        },
-        y: Ends {
-            first: y1,
-            second: y2,
-        },
+impl Points {
+    // The points of run k, by its places on the two axes.
+    pub fn of(x: &Spans, y: &Spans, k: usize) -> Self
+        requires { k < 32 }
+        ensures { result ≡ points_of (side_of x.now.first x.now.second []) (side_of y.now.first y.now.second []) k }
+    {
+        Points {
+            x: Ends {
+                first: x.first[k],
+                second: x.second[k],
+            },
+            y: Ends {
+                first: y.first[k],
+                second: y.second[k],
+            },
+        }
     }
 }
 
 // Writes the steps of a leaf by way of the stretch that it shares with the centre.
-fn leaf_route(centre: Points, leaf: Points, steps: &[u8; 128], s: Stretch, to: &mut [u8])
-    requires { (length steps.now ≡ 128) × ((route_to to.old leaf).count ≤ length to.old)
-        × ((c : ℕ) × (k : ℕ) × (shares : List ℕ) × (count : ℕ) × Stretched centre leaf c (moves_of (trace_of steps.now shares count)) k s) }
-    ensures { ((c k : ℕ) (shares : List ℕ) (count : ℕ) → Stretched centre leaf c (moves_of (trace_of steps.now shares count)) k s
-        → Laid centre leaf c (moves_of (trace_of steps.now shares count)) k to.new) × (length to.new ≡ length to.old) }
+fn leaf_route(centre: Points, leaf: Points, trace: &Trace, s: Stretch, to: &mut [u8])
+    requires { (length trace.now.steps ≡ 128) × ((route_to to.old leaf).count ≤ length to.old)
+        × ((c : ℕ) × (k : ℕ) × Stretched centre leaf c (moves_of trace.now) k s) }
+    ensures { ((c k : ℕ) → Stretched centre leaf c (moves_of trace.now) k s → Laid centre leaf c (moves_of trace.now) k to.new) × (length to.new ≡ length to.old) }
 {
     let from = s.from as usize;
     let size = s.size as usize;
@@ -246,7 +218,13 @@ fn leaf_route(centre: Points, leaf: Points, steps: &[u8; 128], s: Stretch, to: &
     let x = way_of(centre.x, leaf.x, across, wide);
     let y = way_of(centre.y, leaf.y, from - across, size - wide);
     let at = leg(to, 0, x.before, y.before);
-    let at = along(to, at, steps, from, from + size, x.forward, y.forward);
+    let at = along(
+        to,
+        at,
+        &trace.steps[from..from + size],
+        x.forward,
+        y.forward,
+    );
     leg(to, at, x.after, y.after);
 }
 
@@ -255,7 +233,7 @@ fn extent(run: Ends) -> usize
     requires { OnLines run }
     ensures { (result ≡ gap run.first run.second) × (result ≤ 63) }
 {
-    gap(run.first as usize, run.second as usize)
+    run.first.abs_diff(run.second) as usize
 }
 
 // Writes the steps of run k, with the index c of the centre. A leaf that shares nothing goes along the row, then the column.
@@ -264,23 +242,20 @@ pub fn route_of(
     run: Points,
     c: usize,
     k: usize,
-    steps: &[u8; 128],
-    count: usize,
+    trace: &Trace,
     s: Stretch,
     to: &mut [u8],
 )
-    requires { (length steps.now ≡ 128) × ((route_to to.old run).count ≤ length to.old)
-        × ((shares : List ℕ) × Ready centre run c (moves_of (trace_of steps.now shares count)) k s) }
-    ensures { ((shares : List ℕ) → Ready centre run c (moves_of (trace_of steps.now shares count)) k s
-        → Laid centre run c (moves_of (trace_of steps.now shares count)) k to.new) × (length to.new ≡ length to.old) }
+    requires { (length trace.now.steps ≡ 128) × ((route_to to.old run).count ≤ length to.old) × Ready centre run c (moves_of trace.now) k s }
+    ensures { Laid centre run c (moves_of trace.now) k to.new × (length to.new ≡ length to.old) }
 {
     if k == c {
-        forth(to, 0, steps, 0, count);
+        forth(to, 0, &trace.steps[..trace.count]);
         return;
     }
     if s.size == 0 {
         leg(to, 0, extent(run.x), extent(run.y));
         return;
     }
-    leaf_route(centre, run, steps, s, to)
+    leaf_route(centre, run, trace, s, to)
 }

@@ -1,9 +1,10 @@
 -- Marks of edges. Marking a stretch of a line marks the edges that lie on the straight piece between its ends and no others, and markings one after the
 -- other add up.
-use mathlib.Core.Path.{◌≡◌, refl, sym, ap, ap₂, ◌∙◌, subst}
+use mathlib.Core.Path.{◌≡◌, sym, ap, ap₂, ◌∙◌, subst}
 use mathlib.Core.Logic.{inl, inr}
 use mathlib.Core.Bool.{Bool, true, false, not, ◌&&◌, ◌||◌, and-false, or-true, or-false, or_assoc, and-or_distrib_left, true≢false}
 use mathlib.Core.List.{List}
+use Rattle.std.specs.Prelude.{Some, None}
 use Prim.Native.Nat.{ℕ, suc, ◌+◌, ◌≤◌, ◌<◌, min, max}
 use native.Mathlib.Decide.{ℕ_discrete}
 use native.Mathlib.Omega.{arith}
@@ -197,11 +198,6 @@ marked_other g d b p q ms h =
 
 -- ---- where a piece leads
 
--- what is found is the index of a line
-pub found_line : (lines : List ℕ) (n v r : ℕ) → Finds lines n v r → (r ≡ 64 → ⊥) → r < n
-found_line lines n v r (found i h e) o = h
-found_line lines n v r (nowhere m) o = absurd (o refl)
-
 module _ (g : Grid) (columns rows : List ℕ) (across down : ℕ) (held : Ruled g columns across rows down) where
   -- the columns of the table rise
   pub held_columns : RisingTo columns across
@@ -218,30 +214,25 @@ module _ (g : Grid) (columns rows : List ℕ) (across down : ℕ) (held : Ruled 
 module _ (g : Grid) (columns rows : List ℕ) (across down : ℕ) (few-columns : across ≤ 64) (few-rows : down ≤ 64) (held : Ruled g columns across rows down)
     (from : Vertex) (x y : ℕ) where
   -- up or down the column: no row is at y
-  pub astray_up : (right up right' up' : List ℕ) (t : ℕ) → Finds rows down y t → t ≡ 64
-      → Arrived g from (record { x = x; y = y }) right up right' up' (record { column = 64; row = from.row })
-  astray_up right up right' up' t (found r h e) o = absurd (omega arith)
-  astray_up right up right' up' t (nowhere n) o =
-      astray (record { column = 64; row = from.row }) refl (λ s v.
+  pub astray_up : (right up right' up' : List ℕ) → Finds rows down y None → Arrived g from (record { x = x; y = y }) right up right' up' None
+  astray_up right up right' up' (nowhere n) =
+      astray (λ s v.
       let (i, h, e) = v.row in
       n (held_rows g columns rows across down held) i (omega (arith, held.down_is)) (held.tables.row_at i h ∙ e))
 
   -- along the row: no column is at x
-  pub astray_right : (right up right' up' : List ℕ) (t : ℕ) → Finds columns across x t → t ≡ 64
-      → Arrived g from (record { x = x; y = y }) right up right' up' (record { column = 64; row = from.row })
-  astray_right right up right' up' t (found r h e) o = absurd (omega arith)
-  astray_right right up right' up' t (nowhere n) o =
-      astray (record { column = 64; row = from.row }) refl (λ s v.
+  pub astray_right : (right up right' up' : List ℕ) → Finds columns across x None → Arrived g from (record { x = x; y = y }) right up right' up' None
+  astray_right right up right' up' (nowhere n) =
+      astray (λ s v.
       let (i, h, e) = v.column in
       n (held_columns g columns rows across down held) i (omega (arith, held.across_is)) (held.tables.column_at i h ∙ e))
 
   module _ (hc : from.column < across) (hr : from.row < down) where
     -- up or down the column, to the row at y
-    pub arrived_up : (right up up' : List ℕ) → length right ≡ 4096 → get_or columns from.column 0 ≡ x → (t : ℕ) → Finds rows down y t → (t ≡ 64 → ⊥)
+    pub arrived_up : (right up up' : List ℕ) → length right ≡ 4096 → get_or columns from.column 0 ≡ x → (t : ℕ) → Finds rows down y (Some t)
         → Stretched ver from.column (min from.row t) (max from.row t) up up'
-        → Arrived g from (record { x = x; y = y }) right up right up' (record { column = from.column; row = t })
-    arrived_up right up up' z e t (nowhere n) o s = absurd (o refl)
-    arrived_up right up up' z e t (found r h f) o s =
+        → Arrived g from (record { x = x; y = y }) right up right up' (Some (record { column = from.column; row = t }))
+    arrived_up right up up' z e t (found r h f) s =
         let c : from.column < length g.columns = omega (arith, held.across_is) in
         let u : from.row < length g.rows = omega (arith, held.down_is) in
         let w : r < length g.rows = omega (arith, held.down_is) in
@@ -255,11 +246,10 @@ module _ (g : Grid) (columns rows : List ℕ) (across down : ℕ) (few-columns :
         ))
 
     -- along the row, to the column at x; a straight piece that is not in the column is in the row
-    pub arrived_right : (right up right' : List ℕ) → length up ≡ 4096 → (get_or columns from.column 0 ≡ x → ⊥) → (t : ℕ) → Finds columns across x t → (t ≡ 64 → ⊥)
+    pub arrived_right : (right up right' : List ℕ) → length up ≡ 4096 → (get_or columns from.column 0 ≡ x → ⊥) → (t : ℕ) → Finds columns across x (Some t)
         → Stretched hor from.row (min from.column t) (max from.column t) right right'
-        → Arrived g from (record { x = x; y = y }) right up right' up (record { column = t; row = from.row })
-    arrived_right right up right' z e t (nowhere n) o s = absurd (o refl)
-    arrived_right right up right' z e t (found r h f) o s =
+        → Arrived g from (record { x = x; y = y }) right up right' up (Some (record { column = t; row = from.row }))
+    arrived_right right up right' z e t (found r h f) s =
         let c : from.column < length g.columns = omega (arith, held.across_is) in
         let u : from.row < length g.rows = omega (arith, held.down_is) in
         let w : r < length g.columns = omega (arith, held.across_is) in

@@ -1,6 +1,6 @@
 -- Marks of routes on a grid of at most 64 columns and 64 rows, 64 of them a row: three tables, of the corners, of the edges to the right and of the edges
 -- upwards. One law serves both directions: the lines along `hor` are the rows, those along `ver` the columns, and an edge goes from a place of its line to the next.
-use Rattle.std.specs.Prelude.{◌≡◌, Bool, true, false, not, ◌&&◌, ◌||◌, List, ℕ, suc, ◌+◌, ◌*◌, ◌<◌, eqb, leb, ltb, length, get_or}
+use Rattle.std.specs.Prelude.{◌≡◌, Option, Some, None, Bool, true, false, not, ◌&&◌, ◌||◌, List, ℕ, suc, ◌+◌, ◌*◌, ◌<◌, eqb, leb, ltb, length, get_or}
 use Rattle.network.specs.Lists.{any}
 use Rattle.network.specs.Plane.{Point, ◌to◌}
 use Rattle.network.specs.Grid.{Grid, Edge, across_at, upward_at}
@@ -63,10 +63,10 @@ pub record Told (g : Grid) (routes : List Route) (corners right up : List ℕ) :
 
 -- ---- a piece
 
--- r is the index of v among the first n of the lines, or 64 where these rise and v is none of them
-pub data Finds (lines : List ℕ) (n v : ℕ) : ℕ → Type 0 where
-  found : (r : ℕ) → r < n → get_or lines r 0 ≡ v → Finds lines n v r
-  nowhere : (RisingTo lines n → (i : ℕ) → i < n → get_or lines i 0 ≡ v → ⊥) → Finds lines n v 64
+-- the index of v among the first n of the lines, or none where these rise and v is none of them
+pub data Finds (lines : List ℕ) (n v : ℕ) : Option ℕ → Type 0 where
+  found : (r : ℕ) → r < n → get_or lines r 0 ≡ v → Finds lines n v (Some r)
+  nowhere : (RisingTo lines n → (i : ℕ) → i < n → get_or lines i 0 ≡ v → ⊥) → Finds lines n v None
 
 -- the tables begin with the lines of the grid, of which there are so many
 pub record Ruled (g : Grid) (columns : List ℕ) (across : ℕ) (rows : List ℕ) (down : ℕ) : Type 0 where
@@ -78,10 +78,10 @@ pub record Ruled (g : Grid) (columns : List ℕ) (across : ℕ) (rows : List ℕ
 abbrev pub point_of : Grid → Vertex → Point
 point_of g v = vertex g v.column v.row
 
--- from a vertex straight to the point p: the point is no vertex, and the column 64 is given; or its vertex is given, and the edges of the piece were marked
-pub data Arrived (g : Grid) (from : Vertex) (p : Point) (right up right' up' : List ℕ) : Vertex → Type 0 where
-  astray : (v : Vertex) → v.column ≡ 64 → (Straight (point_of g from to p) → IsVertex g p → ⊥) → Arrived g from p right up right' up' v
+-- from a vertex straight to the point p: the point is no vertex, and none is given; or its vertex is given, and the edges of the piece were marked
+pub data Arrived (g : Grid) (from : Vertex) (p : Point) (right up right' up' : List ℕ) : Option Vertex → Type 0 where
+  astray : (Straight (point_of g from to p) → IsVertex g p → ⊥) → Arrived g from p right up right' up' None
   arrived : (v : Vertex) → v.column < length g.columns → v.row < length g.rows
       → (Straight (point_of g from to p)
       → (point_of g v ≡ p) × Marked g hor (λ e. lies e (point_of g from to p)) right right' × Marked g ver (λ e. lies e (point_of g from to p)) up up')
-      → Arrived g from p right up right' up' v
+      → Arrived g from p right up right' up' (Some v)

@@ -2,11 +2,12 @@
 // mark stands at row * 64 + column: of corners at the vertex itself, of edges at the vertex from which the edge goes to the right, or upwards.
 #![tactic(auto)]
 
-ghost use Rattle.std.specs.Prelude.{◌≡◌, ◌≤◌, ◌<◌, min, max, length};
+ghost use Rattle.std.specs.Prelude.{◌≡◌, ◌≤◌, ◌<◌, length};
 ghost use Rattle.network.specs.Grid.{Grid};
 ghost use Rattle.measure.specs.Marks.{direction_of, cell, Stretched, Finds, Ruled, Arrived};
 ghost use Rattle.measure.specs.Measured.{Short, row_trench, row_pits, trench_in, pits_in};
 
+use grid::Axis;
 use route::Vertex;
 
 // The length of a union, and the number of pits.
@@ -16,101 +17,71 @@ pub struct Measured {
     pub pits: usize,
 }
 
-// What is none of the lines.
-const NO_LINE: usize = 64;
-
 // Where the mark of a place of a line stands; the lines of `upright` are the columns.
 fn cell(upright: bool, line: usize, place: usize) -> usize
     requires { (line < 64) × (place < 64) }
     ensures { (result ≡ cell (direction_of upright) line place) × (result < 4096) }
 {
     if upright {
-        return place * 64 + line;
+        place * 64 + line
+    } else {
+        line * 64 + place
     }
-    line * 64 + place
 }
 
 // Marks the places of a line from `low` up to the one before `high`.
+#[tactic(auto, using(crate::proofs::Marking::stretched_none, crate::proofs::Marking::stretched_all))]
 fn mark_stretch(marks: &mut [u8; 4096], upright: bool, line: usize, low: usize, high: usize)
     requires { (line < 64) × (high ≤ 64) × (length marks.old ≡ 4096) }
     ensures { Stretched (direction_of upright) line low high marks.old marks.new }
 {
-    let mut k = low;
-    while k < high {
+    for k in low..high {
         marks[cell(upright, line, k)] = 1;
-        k += 1;
     }
 }
 
-// The index of the line at v, or 64 where there is none.
-pub fn find(lines: &[u32; 64], count: usize, v: u32) -> usize
-    requires { count ≤ 64 }
-    ensures { Finds lines.now count v result }
+// The index of the line at v, where there is one.
+pub fn find(axis: &Axis, v: u32) -> Option<usize>
+    requires { axis.now.count ≤ 64 }
+    ensures { Finds axis.now.lines axis.now.count v result }
 {
-    let k = grid::position(lines, count, v) as usize;
-    if k >= count {
-        return NO_LINE;
+    let k = axis.position(v) as usize;
+    if k < axis.count && axis.lines[k] == v {
+        Some(k)
+    } else {
+        None
     }
-    if lines[k] != v {
-        return NO_LINE;
-    }
-    k
 }
 
-// Marks the edges of the straight piece from a vertex to the point (x, y), and gives the vertex there. A point that is no vertex gives the column 64.
+// Marks the edges of the straight piece from a vertex to the point (x, y), and gives the vertex there, if it is one.
 pub fn mark_piece(
-    columns: &[u32; 64],
-    across: usize,
-    rows: &[u32; 64],
-    down: usize,
+    columns: &Axis,
+    rows: &Axis,
     from: Vertex,
     x: u32,
     y: u32,
     right: &mut [u8; 4096],
     up: &mut [u8; 4096],
-) -> Vertex
-    requires { (across ≤ 64) × (down ≤ 64) × (from.column < across) × (from.row < down) × (length right.old ≡ 4096) × (length up.old ≡ 4096) }
+) -> Option<Vertex>
+    requires { (columns.now.count ≤ 64) × (rows.now.count ≤ 64) × (from.column < columns.now.count) × (from.row < rows.now.count)
+        × (length right.old ≡ 4096) × (length up.old ≡ 4096) }
     ensures { (length right.new ≡ 4096) × (length up.new ≡ 4096)
-        × ((g : Grid) → Ruled g columns.now across rows.now down
+        × ((g : Grid) → Ruled g columns.now.lines columns.now.count rows.now.lines rows.now.count
         → Arrived g from (record { x = x; y = y }) right.old up.old right.new up.new result) }
 {
-    let column = from.column;
-    let row = from.row;
-    if columns[column] == x {
-        let to = find(rows, down, y);
-        if to == NO_LINE {
-            return Vertex {
-                column: NO_LINE,
-                row,
-            };
-        }
-        mark_stretch(up, true, column, lower(row, to), higher(row, to));
-        return Vertex { column, row: to };
+    let Vertex { column, row } = from;
+    if columns.lines[column] == x {
+        let to = find(rows, y)?;
+        mark_stretch(up, true, column, row.min(to), row.max(to));
+        return Some(Vertex { column, row: to });
     }
-    let to = find(columns, across, x);
-    if to == NO_LINE {
-        return Vertex {
-            column: NO_LINE,
-            row,
-        };
-    }
-    mark_stretch(right, false, row, lower(column, to), higher(column, to));
-    Vertex { column: to, row }
-}
-
-fn lower(a: usize, b: usize) -> usize
-    ensures { result ≡ min a b }
-{
-    if a < b { a } else { b }
-}
-
-fn higher(a: usize, b: usize) -> usize
-    ensures { result ≡ max a b }
-{
-    if a < b { b } else { a }
+    let to = find(columns, x)?;
+    mark_stretch(right, false, row, column.min(to), column.max(to));
+    Some(Vertex { column: to, row })
 }
 
 // The length of the marked edges that start in a row.
+#[tactic(auto, using(crate::proofs::Counts::mark_counts, crate::proofs::Counts::mark_counts_not, crate::proofs::Counts::row_trench_none, crate::proofs::Counts::row_trench_more, crate::proofs::Counts::row_trench_most))]
 fn row_trench(
     right: &[u8; 4096],
     up: &[u8; 4096],
@@ -122,9 +93,8 @@ fn row_trench(
     requires { (row < 64) × (across ≤ 64) × (height ≤ 2000000) × Short widths.now }
     ensures { (result ≡ row_trench right.now up.now widths.now height row across) × (result ≤ 256000000) }
 {
-    let mut sum: u32 = 0;
-    let mut i: usize = 0;
-    while i < across {
+    let mut sum = 0;
+    for i in 0..across {
         let m = row * 64 + i;
         if right[m] != 0 {
             sum += widths[i];
@@ -132,12 +102,12 @@ fn row_trench(
         if up[m] != 0 {
             sum += height;
         }
-        i += 1;
     }
     sum
 }
 
 // The pits in a row: corners, and vertices with an edge to the right and one upwards.
+#[tactic(auto, using(crate::proofs::Counts::row_pits_none, crate::proofs::Counts::row_pits_more, crate::proofs::Counts::row_pits_most), unfolding(crate::specs::Marks::is_marked))]
 fn row_pits(
     corners: &[u8; 4096],
     right: &[u8; 4096],
@@ -148,19 +118,18 @@ fn row_pits(
     requires { (row < 64) × (across ≤ 64) }
     ensures { (result ≡ row_pits corners.now right.now up.now row across) × (result ≤ 64) }
 {
-    let mut n: usize = 0;
-    let mut i: usize = 0;
-    while i < across {
+    let mut n = 0;
+    for i in 0..across {
         let m = row * 64 + i;
         if (corners[m] != 0) | ((right[m] != 0) & (up[m] != 0)) {
             n += 1;
         }
-        i += 1;
     }
     n
 }
 
 // What the marks tell, with the lengths of the edges from each column and from each row to the next.
+#[tactic(auto, using(crate::proofs::Counts::trench_none, crate::proofs::Counts::trench_more, crate::proofs::Counts::pits_none, crate::proofs::Counts::pits_more))]
 pub fn measure(
     corners: &[u8; 4096],
     right: &[u8; 4096],
@@ -175,13 +144,11 @@ pub fn measure(
         × (result.pits ≡ pits_in corners.now right.now up.now across down)
         × (result.trench ≤ 16384000000) }
 {
-    let mut trench: u64 = 0;
-    let mut pits: usize = 0;
-    let mut j: usize = 0;
-    while j < down {
-        trench += row_trench(right, up, widths, heights[j], j, across) as u64;
+    let mut trench = 0;
+    let mut pits = 0;
+    for j in 0..down {
+        trench += u64::from(row_trench(right, up, widths, heights[j], j, across));
         pits += row_pits(corners, right, up, j, across);
-        j += 1;
     }
     Measured { trench, pits }
 }

@@ -54,10 +54,9 @@ book_length head es =
     let runs = flat_map (entry_bytes head.grouped) es in
     length-append (head_record head) (runs ++ end_record (total_corners es)) ∙ omega (arith, length-append runs (end_record (total_corners es)))
 
--- a buffer for a plan of the new kinds has room for the head, the runs and the end
-pub book_room : (head : Head) (es : List Entry) (n : ℕ) → head.grouped ≡ true → length (book_bytes head es) ≤ n
-    → 22 + length (flat_map (entry_bytes true) es) ≤ n
-book_room head es n g h = omega (arith, book_length head es, ap (λ k. length (flat_map (entry_bytes k) es)) g)
+-- a plan of the new kinds: the head, the runs and the end
+pub book_room : (head : Head) (es : List Entry) → head.grouped ≡ true → length (book_bytes head es) ≡ 22 + length (flat_map (entry_bytes true) es)
+book_room head es g = omega (arith, book_length head es, ap (λ k. length (flat_map (entry_bytes k) es)) g)
 
 -- at most 127 corners a route
 pub total_few : (es : List Entry) → All (λ e. length e.corners ≤ 127) es → total_corners es ≤ 127 * length es

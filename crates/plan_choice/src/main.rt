@@ -10,7 +10,7 @@ use std::rt::Files;
 
 // Opens the file that an argument names, and says so where it cannot.
 fn open<R: Files + Env>(rt: &R, errors: &mut Output<Stderr>, argument: usize) -> Option<R::File> {
-    let mut name = console::buffer();
+    let mut name = [0u8; 4096];
     let n = console::argument(rt, argument, &mut name);
     match console::open(rt, &name[..n]) {
         Ok(file) => Some(file),
@@ -30,11 +30,10 @@ fn print(screen: &mut Screen, job: &[u8], first: &[u8], second: &[u8]) {
 
 // Writes a book to the file that an argument names, or says why it cannot.
 fn store<R: Files + Env>(rt: &R, errors: &mut Output<Stderr>, book: &[u8], argument: usize) {
-    let mut name = console::buffer();
+    let mut name = [0u8; 4096];
     let n = console::argument(rt, argument, &mut name);
-    match console::store(rt, &name[..n], book) {
-        Ok(()) => {}
-        Err(error) => errors.put_error(&name[..n], error),
+    if let Err(error) = console::store(rt, &name[..n], book) {
+        errors.put_error(&name[..n], error);
     }
 }
 
@@ -47,7 +46,7 @@ fn store_chosen<'a, R: Files + Env>(
     second: &'a [u8],
 ) {
     let chosen = choice::choose(job, first, second);
-    if chosen.len() > 0 {
+    if !chosen.is_empty() {
         store(rt, errors, chosen, 4);
     }
 }
@@ -88,8 +87,8 @@ fn main(rt: HostRuntime) -> io::Result<()> {
     let job_file = open(&rt, &mut errors, 1);
     let first_file = open(&rt, &mut errors, 2);
     let second_file = open(&rt, &mut errors, 3);
-    match (job_file, first_file, second_file) {
-        (Some(job), Some(first), Some(second)) => read(
+    if let (Some(job), Some(first), Some(second)) = (job_file, first_file, second_file) {
+        read(
             &rt,
             &mut screen,
             &mut errors,
@@ -97,8 +96,7 @@ fn main(rt: HostRuntime) -> io::Result<()> {
             first,
             second,
             words == 5,
-        )?,
-        _ => {}
+        )?;
     }
     screen.end()?;
     errors.end()

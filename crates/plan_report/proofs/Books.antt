@@ -10,7 +10,7 @@ use Rattle.refusal.specs.declared.Refusal.{Refusal}
 use Rattle.plan.specs.declared.Head.{Head}
 use Rattle.plan.specs.Plan.{Entry, book_bytes}
 use Rattle.fields.specs.Bytes.{Wrote}
-use Rattle.book.specs.declared.Answer.TheVariants.{Accepted, Refused}
+use Rattle.std.specs.Prelude.{Ok, Err}
 use Rattle.book.specs.declared.Reading.{Reading}
 use Rattle.book.specs.Parse.{Parsed, accepted, refused, parse_plan}
 use Rattle.book.specs.Reading.{reading_of}
@@ -31,16 +31,16 @@ accepted_listing : (book : List ℕ) (h : Head) (es : List Entry) → Bytes book
 accepted_listing book h es b e =
     ap listing_of (sym (append-nil (book_bytes h es) ∙ accepted_bytes book h es b e)) ∙ plan_listing h es (accepted_right book h es b e) []
 
-module _ (book : List ℕ) (r : Reading) (is : r ≡ reading_of (parse_plan book)) (text text' : List ℕ) (n : ℕ) where
+module _ (book text text' : List ℕ) (n : ℕ) where
   -- the book is accepted, and its records are listed
-  pub plan_due : Bytes book → r.answer ≡ Accepted → Listed (listing_of book) text text' n → BookListed (parse_plan book) text text' n
-  plan_due b a l =
-      let (es, e) = reading_accepted (parse_plan book) r is a in
+  pub plan_due : Bytes book → (r : Reading) → Ok r ≡ reading_of (parse_plan book) → Listed (listing_of book) text text' n → BookListed (parse_plan book) text text' n
+  plan_due b r is l =
+      let (es, e, places) = reading_accepted (parse_plan book) r is in
       rw (e, ← accepted_listing book r.head es b e) l
 
   -- the book is refused, and the refusal is listed
-  pub refusal_due : (x : Refusal) → r.answer ≡ Refused x → Listed (refusal_text x) text text' n → BookListed (parse_plan book) text text' n
-  refusal_due x a l = rw (reading_refused (parse_plan book) r x is a) l
+  pub refusal_due : (x : Refusal) → Err x ≡ reading_of (parse_plan book) → Listed (refusal_text x) text text' n → BookListed (parse_plan book) text text' n
+  refusal_due x is l = rw (reading_refused (parse_plan book) x is) l
 
 -- ---- a buffer with room
 

@@ -8,6 +8,7 @@ use native.Mathlib.Omega.{arith}
 use borrow.Author.Tests.{ltb-true}
 use lib.Dec.{ltb, leb, eqb}
 use lib.ListN.{length, take, drop, length-take, length-drop}
+use Rattle.std.specs.Prelude.{Result, Ok, Err}
 use Rattle.job.specs.Fields.{biased_of}
 use Rattle.job.proofs.Decoded.{by_test}
 use Rattle.refusal.specs.declared.Refusal.{Refusal}
@@ -19,6 +20,7 @@ use Rattle.records.specs.declared.Record.{Record}
 use Rattle.records.specs.declared.Record.TheVariants as rec
 use Rattle.records.specs.Records.{record_of}
 use Rattle.book.specs.declared.Corner.{Corner}
+use Rattle.book.specs.declared.Route.{Route}
 use Rattle.book.specs.declared.Walk.{Walk}
 use Rattle.book.specs.declared.Step.{Step}
 use Rattle.book.specs.declared.Step.TheVariants as step
@@ -60,11 +62,9 @@ module _ (m : ℕ) where
   -- ---- the records
 
   -- a step that refuses does so at most at m
-  abbrev StepIn : Step → Type 0
-  StepIn (step.Route number meets said centre) = Unit {0}
-  StepIn (step.Corner c) = Unit {0}
-  StepIn (step.End total) = Unit {0}
-  StepIn (step.Refuse x) = refusal_place x ≤ m
+  abbrev StepIn : Result Step Refusal → Type 0
+  StepIn (Ok s) = Unit {0}
+  StepIn (Err x) = refusal_place x ≤ m
 
   -- a step looks at a record that begins at most there, or at the byte behind an end
   step_by_lem : (at : ℕ) (w : Walk) (left : ℕ) (g : Record) → at + left ≤ m → StepIn (step_by at w left g)
@@ -88,9 +88,9 @@ module _ (m : ℕ) where
   RestIn g at (stopped x) = refusal_place x ≤ m
 
   -- one more route in front
-  route_in_lem : (g : Bool) (at number meets said centre : ℕ) (k : Rest) → RestIn g (at + route_size g) k → RestIn g at (with_route number meets said centre k)
-  route_in_lem g at number meets said centre (rest cs ts total) h = omega arith
-  route_in_lem g at number meets said centre (stopped x) h = h
+  route_in_lem : (g : Bool) (at : ℕ) (r : Route) (k : Rest) → RestIn g (at + route_size g) k → RestIn g at (with_route r k)
+  route_in_lem g at r (rest cs ts total) h = omega arith
+  route_in_lem g at r (stopped x) h = h
 
   -- one more corner in front
   corner_in_lem : (g : Bool) (at : ℕ) (c : Corner) (k : Rest) → RestIn g (at + 9) k → RestIn g at (with_corner c k)
@@ -105,14 +105,14 @@ module _ (m : ℕ) where
       go (step_of at w b) (step_took at w b) (step_by_lem at w (length b) (record_of b) h)
       (λ k v l. rest_in n (at + k) v (drop k b) (omega (arith, length-drop k b)))
     where
-      go : (s : Step) → Took b w (record_of b) s → StepIn s → ((k : ℕ) (v : Walk) → k ≤ length b → RestIn v.grouped (at + k) (rest_from n (at + k) v (drop k b)))
+      go : (s : Result Step Refusal) → Took b w (record_of b) s → StepIn s → ((k : ℕ) (v : Walk) → k ≤ length b → RestIn v.grouped (at + k) (rest_from n (at + k) v (drop k b)))
           → RestIn w.grouped at (proceed (rest_from n) at w b s)
-      go (step.Route number meets said centre) t i later =
+      go (Ok (step.Route r)) t i later =
           let size = route_size w.grouped in
-          route_in_lem w.grouped at number meets said centre (rest_from n (at + size) (begun w) (drop size b)) (later size (begun w) t.long)
-      go (step.Corner c) t i later = corner_in_lem w.grouped at c (rest_from n (at + 9) (passed w c) (drop 9 b)) (later 9 (passed w c) t.long)
-      go (step.End total) t i later = omega arith
-      go (step.Refuse x) t i later = i
+          route_in_lem w.grouped at r (rest_from n (at + size) (begun w) (drop size b)) (later size (begun w) t.long)
+      go (Ok (step.Corner c)) t i later = corner_in_lem w.grouped at c (rest_from n (at + 9) (passed w c) (drop 9 b)) (later 9 (passed w c) t.long)
+      go (Ok (step.End total)) t i later = omega arith
+      go (Err x) t i later = i
 
   -- ---- the counts
 

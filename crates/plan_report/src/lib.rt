@@ -5,17 +5,13 @@ ghost use Rattle.std.specs.Prelude.{◌≡◌, ◌≤◌, length, take};
 ghost use Rattle.book.specs.Parse.{parse_plan};
 ghost use Rattle.plan_report.specs.BookListed.{BookListed};
 
-use book::Answer;
-
 // The text of the plan that a book holds, or of the refusal of the book, as much of it as there is room for, and how many bytes that is.
 pub fn list_book(book: &[u8], text: &mut [u8]) -> usize
     ensures listed { BookListed (parse_plan book.now) text.old text.new result }
     ensures within { (result ≤ length text.new) × (result ≡ length (take result text.new)) }
 {
-    let reading = book::read(book);
-    let answer = reading.answer;
-    match answer {
-        Answer::Accepted => text::list_plan(book, text),
-        Answer::Refused(refusal) => text::list_refusal(refusal, text),
+    match book::read(book) {
+        Ok(_) => text::list_plan(book, text),
+        Err(refusal) => text::list_refusal(refusal, text),
     }
 }

@@ -1,35 +1,29 @@
 // Prints plans of a few routes: each route's corners in line indexes, the pits, and the bytes that are written into dirty buffers.
 #![tactic(auto)]
 
-ghost use Rattle.std.specs.Prelude.{◌≡◌, true, map, ◌<◌, ◌≤◌, length, take};
+ghost use Rattle.std.specs.Prelude.{◌≡◌, true, map, ◌≤◌, length, take};
 ghost use Rattle.network.specs.Graph.{below};
 ghost use Rattle.network.specs.Steps.{Fits};
 ghost use Rattle.route.specs.Route.{route_by, lane, OnGrid, numbered, corner_count};
-ghost use Rattle.route.specs.Stored.{tracks_of, routes_in, Stored};
+ghost use Rattle.route.specs.Stored.{routes_of, AreStored};
+ghost use Rattle.plan.specs.Writers.{AreCounted};
 
 use console::{Output, Screen};
-use plan::Head;
-use route::{Track, Vertex, Walker};
+use job::Spans;
+use plan::{Figures, Head};
+use route::{Routes, Track, Vertex, Walker};
 use std::io;
 
-// Routes from (x1[k], y1[k]) to (x2[k], y2[k]), with room for 128 steps each.
+// How many steps a route has room for.
+const STRIDE: usize = 128;
+
+// Routes, with room for 32.
 #[derive(Clone, Copy)]
-struct Routes {
+struct Sheet {
     steps: [u8; 4096],
-    x1: [u32; 32],
-    y1: [u32; 32],
-    x2: [u32; 32],
-    y2: [u32; 32],
+    x: Spans,
+    y: Spans,
     count: usize,
-}
-
-fn print(screen: &mut Screen, text: &[u8]) {
-    screen.put(text);
-}
-
-fn print_number(screen: &mut Screen, n: u64) {
-    print(screen, b" ");
-    screen.put_decimal(n);
 }
 
 // A step along the row is an r, any other letter is a step along the column.
@@ -37,47 +31,44 @@ fn step_of(letter: u8) -> u8 {
     if letter == b'r' { 0 } else { letter }
 }
 
-fn no_routes() -> Routes {
-    Routes {
-        steps: [0u8; 4096],
-        x1: [0u32; 32],
-        y1: [0u32; 32],
-        x2: [0u32; 32],
-        y2: [0u32; 32],
-        count: 0,
+impl Sheet {
+    fn new() -> Self {
+        let none = Spans {
+            first: [0; 32],
+            second: [0; 32],
+        };
+        Sheet {
+            steps: [0; 4096],
+            x: none,
+            y: none,
+            count: 0,
+        }
     }
-}
 
-// One more route, where there is room.
-fn add(routes: Routes, letters: &[u8], x1: u32, y1: u32, x2: u32, y2: u32) -> Routes {
-    let k = routes.count;
-    let n = letters.len();
-    if k >= 32 {
-        return routes;
+    // One more route, where there is room, from (x1, y1) to (x2, y2).
+    fn add(&mut self, letters: &[u8], x1: u32, y1: u32, x2: u32, y2: u32) {
+        let k = self.count;
+        if k >= 32 || letters.len() > STRIDE {
+            return;
+        }
+        for (i, letter) in letters.iter().enumerate() {
+            self.steps[k * STRIDE + i] = step_of(*letter);
+        }
+        self.x.first[k] = x1;
+        self.y.first[k] = y1;
+        self.x.second[k] = x2;
+        self.y.second[k] = y2;
+        self.count = k + 1;
     }
-    if n > 128 {
-        return routes;
-    }
-    let mut steps = routes.steps;
-    for i in 0..n {
-        steps[k * 128 + i] = step_of(letters[i]);
-    }
-    let mut from_columns = routes.x1;
-    let mut from_rows = routes.y1;
-    let mut to_columns = routes.x2;
-    let mut to_rows = routes.y2;
-    from_columns[k] = x1;
-    from_rows[k] = y1;
-    to_columns[k] = x2;
-    to_rows[k] = y2;
-    let count = k + 1;
-    Routes {
-        steps,
-        x1: from_columns,
-        y1: from_rows,
-        x2: to_columns,
-        y2: to_rows,
-        count,
+
+    fn routes(&self) -> Routes<'_> {
+        Routes {
+            steps: &self.steps,
+            stride: STRIDE,
+            x: &self.x,
+            y: &self.y,
+            count: self.count,
+        }
     }
 }
 
@@ -103,36 +94,26 @@ fn on_grid(track: Track, steps: &[u8]) -> bool
         return false;
     }
     let mut across: usize = 0;
-    for i in 0..count {
-        if steps[i] == 0 {
+    for step in &steps[..count] {
+        if *step == 0 {
             across += 1;
         }
     }
     fits(track.right, track.start.column, across) & fits(track.up, track.start.row, count - across)
 }
 
-// Whether at most 32 routes do, each of 128 bytes.
-fn all_on_grid(
-    steps: &[u8],
-    x1: &[u32; 32],
-    y1: &[u32; 32],
-    x2: &[u32; 32],
-    y2: &[u32; 32],
-    count: usize,
-) -> bool
-    ensures { result ≡ true
-        → Stored steps.now 128 (tracks_of x1.now y1.now x2.now y2.now) count }
+// Whether at most 32 routes do, each of at most 128 bytes.
+fn all_on_grid(routes: &Routes) -> bool
+    ensures { result ≡ true → AreStored routes.now }
 {
-    if count > 32 {
+    if routes.count > 32 || routes.stride > STRIDE {
         return false;
     }
-    if steps.len() < 4096 {
+    if routes.count * routes.stride > routes.steps.len() {
         return false;
     }
-    for i in 0..count {
-        let track = route::track_of(x1[i], y1[i], x2[i], y2[i]);
-        let from = i * 128;
-        if !on_grid(track, &steps[from..]) {
+    for k in 0..routes.count {
+        if !on_grid(routes.track(k), routes.steps_of(k)) {
             return false;
         }
     }
@@ -140,8 +121,8 @@ fn all_on_grid(
 }
 
 fn print_corner(screen: &mut Screen, v: Vertex) {
-    print_number(screen, v.column as u64);
-    print(screen, b",");
+    screen.put_number(v.column as u64);
+    screen.put(b",");
     screen.put_decimal(v.row as u64);
 }
 
@@ -149,9 +130,9 @@ fn print_corner(screen: &mut Screen, v: Vertex) {
 fn print_corners(screen: &mut Screen, track: Track, steps: &[u8], corners: usize)
     requires { OnGrid numbered (route_by steps.now track) }
 {
-    print(screen, b"corners");
-    print_number(screen, corners as u64);
-    print(screen, b":");
+    screen.put(b"corners");
+    screen.put_number(corners as u64);
+    screen.put(b":");
     let mut w = Walker::start(track);
     while w.at < track.count {
         let s = w.step(track, steps);
@@ -161,54 +142,23 @@ fn print_corners(screen: &mut Screen, track: Track, steps: &[u8], corners: usize
         w = s.walker;
     }
     print_corner(screen, w.here);
-    print(screen, b"\n");
+    screen.put(b"\n");
 }
 
 // The corners of the first three routes.
-fn print_routes(
-    screen: &mut Screen,
-    steps: &[u8],
-    x1: &[u32; 32],
-    y1: &[u32; 32],
-    x2: &[u32; 32],
-    y2: &[u32; 32],
-    count: usize,
-    corners: &[usize; 32],
-)
-    requires { Stored steps.now 128 (tracks_of x1.now y1.now x2.now y2.now) count }
+fn print_routes(screen: &mut Screen, routes: &Routes, corners: &[usize; 32])
+    requires { AreStored routes.now }
 {
-    let n = hexadecimal::least(count, 3);
-    for i in 0..n {
-        let track = route::track_of(x1[i], y1[i], x2[i], y2[i]);
-        let from = i * 128;
-        print_corners(screen, track, &steps[from..], corners[i]);
+    for k in 0..routes.count.min(3) {
+        print_corners(screen, routes.track(k), routes.steps_of(k), corners[k]);
     }
-}
-
-fn digit(n: u8) -> u8 {
-    let d = n % 16;
-    if d < 10 { 48 + d } else { 87 + d }
-}
-
-fn print_hex(screen: &mut Screen, bytes: &[u8]) {
-    for i in 0..bytes.len() {
-        let b = bytes[i];
-        print(screen, &[digit(b / 16), digit(b)]);
-    }
-    print(screen, b"\n");
-}
-
-fn wide(b: u8) -> u64
-    ensures { result < 256 }
-{
-    b as u64
 }
 
 // A digest of the bytes: each counts with its place.
 fn digest(bytes: &[u8]) -> u64 {
     let mut sum: u64 = 0;
-    for i in 0..bytes.len() {
-        sum = (sum * 257 + wide(bytes[i]) + 1) % 4294967291;
+    for b in bytes {
+        sum = (sum * 257 + u64::from(*b) + 1) % 4294967291;
     }
     sum
 }
@@ -217,42 +167,36 @@ fn digest(bytes: &[u8]) -> u64 {
 fn print_plan(screen: &mut Screen, out: &[u8], n: usize)
     requires { n ≤ length out.now }
 {
-    print(screen, b"bytes");
-    print_number(screen, n as u64);
-    print(screen, b" digest");
-    print_number(screen, digest(&out[..n]));
-    print(screen, b" behind");
-    print_number(screen, (out.len() - n) as u64);
-    print(screen, b" digest");
-    print_number(screen, digest(&out[n..]));
-    print(screen, b"\n");
+    let (book, behind) = out.split_at(n);
+    screen.put(b"bytes");
+    screen.put_number(n as u64);
+    screen.put(b" digest");
+    screen.put_number(digest(book));
+    screen.put(b" behind");
+    screen.put_number(behind.len() as u64);
+    screen.put(b" digest");
+    screen.put_number(digest(behind));
+    screen.put(b"\n");
     if n < 400 {
-        print_hex(screen, &out[..n]);
+        for b in book {
+            screen.put_byte(*b);
+        }
+        screen.put(b"\n");
     }
 }
 
 // The corners and the pits of routes.
-fn print_pits(
-    screen: &mut Screen,
-    steps: &[u8],
-    x1: &[u32; 32],
-    y1: &[u32; 32],
-    x2: &[u32; 32],
-    y2: &[u32; 32],
-    count: usize,
-    corners: &mut [usize; 32],
-) -> usize
-    requires { Stored steps.now 128 (tracks_of x1.now y1.now x2.now y2.now) count × (length corners.old ≡ 32) }
+fn print_pits(screen: &mut Screen, routes: &Routes, corners: &mut [usize; 32]) -> usize
+    requires { AreStored routes.now × (length corners.old ≡ 32) }
     ensures { (result ≤ 4064) × (length corners.new ≡ 32)
-        × (take count corners.new ≡ map corner_count
-        (routes_in steps.now 128 (tracks_of x1.now y1.now x2.now y2.now) count)) }
+        × (take routes.now.count corners.new ≡ map corner_count (routes_of routes.now)) }
 {
     let mut marks = [0u8; 4096];
-    let pits = route::mark_routes(steps, 128, x1, y1, x2, y2, count, &mut marks, 64, corners);
-    print_routes(screen, steps, x1, y1, x2, y2, count, &*corners);
-    print(screen, b"pits");
-    print_number(screen, pits as u64);
-    print(screen, b"\n");
+    let pits = route::mark_routes(routes, &mut marks, 64, corners);
+    print_routes(screen, routes, &*corners);
+    screen.put(b"pits");
+    screen.put_number(pits as u64);
+    screen.put(b"\n");
     pits
 }
 
@@ -260,114 +204,60 @@ fn print_pits(
 fn print_plans(
     screen: &mut Screen,
     head: Head,
-    numbers: &[u32; 32],
-    meets: &[u32; 32],
-    centres: &[u32; 32],
-    corners: &[usize; 32],
-    steps: &[u8],
-    x1: &[u32; 32],
-    y1: &[u32; 32],
-    x2: &[u32; 32],
-    y2: &[u32; 32],
-    count: usize,
+    figures: &Figures,
+    routes: &Routes,
     columns: &[u32; 64],
     rows: &[u32; 64],
 )
-    requires { (head.grouped ≡ true) × Stored steps.now 128 (tracks_of x1.now y1.now x2.now y2.now) count
-        × (take count corners.now ≡ map corner_count (routes_in steps.now 128 (tracks_of x1.now y1.now x2.now y2.now) count)) }
+    requires { (head.grouped ≡ true) × AreStored routes.now × AreCounted figures.now routes.now }
 {
     let mut small = [0x5Au8; 36886];
-    let n = plan::write_plan(
-        &mut small, head, numbers, meets, centres, corners, steps, 128, x1, y1, x2, y2, count,
-        columns, rows,
-    );
+    let n = plan::write_plan(&mut small, head, figures, routes, columns, rows);
     print_plan(screen, &small, n);
     let mut large = [0xA5u8; 40960];
-    let m = plan::write_plan(
-        &mut large, head, numbers, meets, centres, corners, steps, 128, x1, y1, x2, y2, count,
-        columns, rows,
-    );
+    let m = plan::write_plan(&mut large, head, figures, routes, columns, rows);
     print_plan(screen, &large, m);
 }
 
 // Prints the corners, the pits and the plan of routes that are on the grid.
-fn show_stored(
-    screen: &mut Screen,
-    head: Head,
-    numbers: &[u32; 32],
-    meets: &[u32; 32],
-    centres: &[u32; 32],
-    steps: &[u8],
-    x1: &[u32; 32],
-    y1: &[u32; 32],
-    x2: &[u32; 32],
-    y2: &[u32; 32],
-    count: usize,
-    columns: &[u32; 64],
-    rows: &[u32; 64],
-)
-    requires { head.grouped ≡ true }
-{
-    if !all_on_grid(steps, x1, y1, x2, y2, count) {
-        print(screen, b"off the grid\n");
-        return;
-    }
-    let mut corners = [0usize; 32];
-    let pits = print_pits(screen, steps, x1, y1, x2, y2, count, &mut corners);
-    let mut figures = head;
-    figures.pits = pits as u32;
-    print_plans(
-        screen, figures, numbers, meets, centres, &corners, steps, x1, y1, x2, y2, count, columns,
-        rows,
-    );
-}
-
-// The same of routes that are held in one struct.
 fn show(
     screen: &mut Screen,
     head: Head,
     numbers: &[u32; 32],
     meets: &[u32; 32],
     centres: &[u32; 32],
-    routes: Routes,
+    sheet: &Sheet,
     columns: &[u32; 64],
     rows: &[u32; 64],
 )
     requires { head.grouped ≡ true }
 {
-    let steps = routes.steps;
-    let x1 = routes.x1;
-    let y1 = routes.y1;
-    let x2 = routes.x2;
-    let y2 = routes.y2;
-    show_stored(
-        screen,
-        head,
+    let routes = sheet.routes();
+    if !all_on_grid(&routes) {
+        screen.put(b"off the grid\n");
+        return;
+    }
+    let mut corners = [0usize; 32];
+    let pits = print_pits(screen, &routes, &mut corners);
+    let figures = Figures {
         numbers,
         meets,
         centres,
-        &steps,
-        &x1,
-        &y1,
-        &x2,
-        &y2,
-        routes.count,
-        columns,
-        rows,
-    );
+        corners: &corners,
+    };
+    let counted = Head {
+        pits: pits as u32,
+        ..head
+    };
+    print_plans(screen, counted, &figures, &routes, columns, rows);
 }
 
 // Prints the corners and the pits alone.
-fn show_pits(screen: &mut Screen, routes: Routes) {
-    let count = routes.count;
-    let steps = routes.steps;
-    let x1 = routes.x1;
-    let y1 = routes.y1;
-    let x2 = routes.x2;
-    let y2 = routes.y2;
-    if all_on_grid(&steps, &x1, &y1, &x2, &y2, count) {
+fn show_pits(screen: &mut Screen, sheet: &Sheet) {
+    let routes = sheet.routes();
+    if all_on_grid(&routes) {
         let mut corners = [0usize; 32];
-        let _ = print_pits(screen, &steps, &x1, &y1, &x2, &y2, count, &mut corners);
+        let _ = print_pits(screen, &routes, &mut corners);
     }
 }
 
@@ -390,9 +280,10 @@ fn job_seven(screen: &mut Screen) {
     let mut meets = [1u32; 32];
     meets[0] = 2;
     let centres = [1u32; 32];
-    let first = add(no_routes(), b"crrcc", 0, 0, 2, 3);
-    let second = add(first, b"rr", 0, 1, 2, 1);
-    let routes = add(second, b"cc", 1, 2, 1, 4);
+    let mut sheet = Sheet::new();
+    sheet.add(b"crrcc", 0, 0, 2, 3);
+    sheet.add(b"rr", 0, 1, 2, 1);
+    sheet.add(b"cc", 1, 2, 1, 4);
     let head = Head {
         grouped: true,
         job: 7,
@@ -403,7 +294,7 @@ fn job_seven(screen: &mut Screen) {
         last: 1,
     };
     show(
-        screen, head, &numbers, &meets, &centres, routes, &columns, &rows,
+        screen, head, &numbers, &meets, &centres, &sheet, &columns, &rows,
     );
 }
 
@@ -414,7 +305,8 @@ fn one_run(screen: &mut Screen) {
     let rows = [2000000u32; 64];
     let numbers = [9999u32; 32];
     let meets = [0u32; 32];
-    let routes = add(no_routes(), b"r", 0, 0, 1, 0);
+    let mut sheet = Sheet::new();
+    sheet.add(b"r", 0, 0, 1, 0);
     let head = Head {
         grouped: true,
         job: 4294967295,
@@ -425,7 +317,7 @@ fn one_run(screen: &mut Screen) {
         last: 1,
     };
     show(
-        screen, head, &numbers, &meets, &numbers, routes, &columns, &rows,
+        screen, head, &numbers, &meets, &numbers, &sheet, &columns, &rows,
     );
 }
 
@@ -435,7 +327,7 @@ fn no_runs(screen: &mut Screen) {
     let rows = [0u32; 64];
     let numbers = [0u32; 32];
     let meets = [0u32; 32];
-    let routes = no_routes();
+    let sheet = Sheet::new();
     let head = Head {
         grouped: true,
         job: 7,
@@ -446,7 +338,7 @@ fn no_runs(screen: &mut Screen) {
         last: 0,
     };
     show(
-        screen, head, &numbers, &meets, &numbers, routes, &columns, &rows,
+        screen, head, &numbers, &meets, &numbers, &sheet, &columns, &rows,
     );
 }
 
@@ -470,9 +362,10 @@ fn all_ways(screen: &mut Screen) {
     meets[1] = 1;
     let mut centres = [9998u32; 32];
     centres[1] = 65836;
-    let first = add(no_routes(), b"rcrcrcr", 4, 3, 0, 0);
-    let second = add(first, b"cccrrrr", 0, 3, 4, 0);
-    let routes = add(second, b"rrccrcr", 4, 0, 0, 3);
+    let mut sheet = Sheet::new();
+    sheet.add(b"rcrcrcr", 4, 3, 0, 0);
+    sheet.add(b"cccrrrr", 0, 3, 4, 0);
+    sheet.add(b"rrccrcr", 4, 0, 0, 3);
     let head = Head {
         grouped: true,
         job: 65536,
@@ -483,20 +376,16 @@ fn all_ways(screen: &mut Screen) {
         last: 65538,
     };
     show(
-        screen, head, &numbers, &meets, &centres, routes, &columns, &rows,
+        screen, head, &numbers, &meets, &centres, &sheet, &columns, &rows,
     );
 }
 
 fn counting(from: u32) -> [u32; 32]
     requires { from ≤ 9968 }
 {
-    let mut numbers = [0u32; 32];
-    let mut i: usize = 0;
-    let mut k: u32 = from;
-    while i < 32 {
-        numbers[i] = k;
-        i += 1;
-        k += 1;
+    let mut numbers = [0; 32];
+    for i in 0..32 {
+        numbers[i] = from + i as u32;
     }
     numbers
 }
@@ -504,13 +393,9 @@ fn counting(from: u32) -> [u32; 32]
 fn evenly(from: u32) -> [u32; 64]
     requires { from ≤ 2 }
 {
-    let mut lines = [0u32; 64];
-    let mut i: usize = 0;
-    let mut c: u32 = from;
-    while i < 64 {
-        lines[i] = c;
-        i += 1;
-        c += 31746;
+    let mut lines = [0; 64];
+    for i in 0..64 {
+        lines[i] = from + 31746 * i as u32;
     }
     lines
 }
@@ -522,25 +407,22 @@ fn longest(screen: &mut Screen) {
     let numbers = counting(9968);
     let meets = [31u32; 32];
     let centres = [9968u32; 32];
-    let mut routes = no_routes();
-    for i in 0..16 {
-        let one = add(
-            routes,
+    let mut sheet = Sheet::new();
+    for _ in 0..16 {
+        sheet.add(
             b"rcrcrcrcrcrcrcrcrcrcrcrcrcrcrcrcrcrcrcrcrcrcrcrcrcrcrcrcrcrcrcrcrcrcrcrcrcrcrcrcrcrcrcrcrcrcrcrcrcrcrcrcrcrcrcrcrcrcrcrcrcrcrc",
             0,
             0,
             63,
             63,
         );
-        let two = add(
-            one,
+        sheet.add(
             b"crcrcrcrcrcrcrcrcrcrcrcrcrcrcrcrcrcrcrcrcrcrcrcrcrcrcrcrcrcrcrcrcrcrcrcrcrcrcrcrcrcrcrcrcrcrcrcrcrcrcrcrcrcrcrcrcrcrcrcrcrcrcr",
             0,
             0,
             63,
             63,
         );
-        routes = two;
     }
     let head = Head {
         grouped: true,
@@ -552,16 +434,17 @@ fn longest(screen: &mut Screen) {
         last: 1,
     };
     show(
-        screen, head, &numbers, &meets, &centres, routes, &columns, &rows,
+        screen, head, &numbers, &meets, &centres, &sheet, &columns, &rows,
     );
 }
 
 // The pits of a route along row 2, of one down column 3, and of a third.
 fn cross(screen: &mut Screen, letters: &[u8], x1: u32, y1: u32, x2: u32, y2: u32) {
-    let first = add(no_routes(), b"rrrrrr", 0, 2, 6, 2);
-    let second = add(first, b"ccccc", 3, 5, 3, 0);
-    let routes = add(second, letters, x1, y1, x2, y2);
-    show_pits(screen, routes);
+    let mut sheet = Sheet::new();
+    sheet.add(b"rrrrrr", 0, 2, 6, 2);
+    sheet.add(b"ccccc", 3, 5, 3, 0);
+    sheet.add(letters, x1, y1, x2, y2);
+    show_pits(screen, &sheet);
 }
 
 // Where cables cross. The third keeps away; it passes the crossing along the row, along the column, and back along the row; it ends there, starts

@@ -19,6 +19,7 @@ use Rattle.grid.specs.Runs.{run_held, runs_held}
 use Rattle.grid.proofs.Places.{axis_count, position_line}
 use Rattle.grid.proofs.Hanan.{length_runs, run_at_lem, axis_columns, axis_rows, run_placed}
 use Rattle.table.specs.Side.{PlacesOf}
+use Rattle.job.specs.declared.Spans.{Spans}
 use Rattle.planner.specs.Forecast.{touching, lines_at, words_for, bytes_for}
 use Rattle.planner.specs.Stages.{steps_on}
 use Rattle.planner.proofs.Touching.{touching_gap}
@@ -45,10 +46,10 @@ module _ (x1 y1 x2 y2 : List ℕ) (n : ℕ) (a b : Axis) (ea : a ≡ axis_of (di
   words_counted =
       ap₂ (λ c r. c * r * 4) (sym (axis_count a g.columns (axis_columns x1 y1 x2 y2 n a ea))) (sym (axis_count b g.rows (axis_rows x1 y1 x2 y2 n b eb)))
 
-  module _ (xa xb ya yb : List ℕ) (pa : PlacesOf a.lines a.count x1 n xa) (pb : PlacesOf a.lines a.count x2 n xb)
-      (qa : PlacesOf b.lines b.count y1 n ya) (qb : PlacesOf b.lines b.count y2 n yb) where
+  module _ (x y : Spans) (pa : PlacesOf a.lines a.count x1 n x.first) (pb : PlacesOf a.lines a.count x2 n x.second)
+      (qa : PlacesOf b.lines b.count y1 n y.first) (qb : PlacesOf b.lines b.count y2 n y.second) where
     -- the lines that touch run k's box
-    lines_counted : (k : ℕ) → k < n → lines_at g (run_held x1 y1 x2 y2 k) ≡ suc (gap (get_or xa k 0) (get_or xb k 0)) + suc (gap (get_or ya k 0) (get_or yb k 0))
+    lines_counted : (k : ℕ) → k < n → lines_at g (run_held x1 y1 x2 y2 k) ≡ suc (gap (get_or x.first k 0) (get_or x.second k 0)) + suc (gap (get_or y.first k 0) (get_or y.second k 0))
     lines_counted k h =
         let p = run_placed x1 y1 x2 y2 n k h in
         ap₂ ◌+◌
@@ -58,11 +59,11 @@ module _ (x1 y1 x2 y2 : List ℕ) (n : ℕ) (a b : Axis) (ea : a ≡ axis_of (di
         ∙ ap₂ (λ u v. suc (gap u v)) (sym (qa k h)) (sym (qb k h)))
 
     -- the bytes
-    pub bytes_counted : bytes_for (runs_held x1 y1 x2 y2 n) ≡ 22 + 18 * n + 9 * (steps_on xa xb n + steps_on ya yb n)
+    pub bytes_counted : bytes_for (runs_held x1 y1 x2 y2 n) ≡ 22 + 18 * n + 9 * (steps_on x n + steps_on y n)
     unfolding steps_on
     bytes_counted =
-        let f : ℕ → ℕ = λ k. gap (get_or xa k 0) (get_or xb k 0) in
-        let h : ℕ → ℕ = λ k. gap (get_or ya k 0) (get_or yb k 0) in
+        let f : ℕ → ℕ = λ k. gap (get_or x.first k 0) (get_or x.second k 0) in
+        let h : ℕ → ℕ = λ k. gap (get_or y.first k 0) (get_or y.second k 0) in
         let term : Run → ℕ = λ r. 9 + 9 * (lines_at g r - 1) in
         let e = sum_at term (runs_held x1 y1 x2 y2 n) (origin to origin)
         ∙ ap (λ m. sum_to m (λ k. term (get_or (runs_held x1 y1 x2 y2 n) k (origin to origin)))) (length_runs x1 y1 x2 y2 n)
@@ -73,14 +74,14 @@ module _ (x1 y1 x2 y2 : List ℕ) (n : ℕ) (a b : Axis) (ea : a ≡ axis_of (di
 
 -- ---- the steps of one axis
 
-module _ (first second : List ℕ) where
-  pub steps_none : steps_on first second 0 ≡ 0
+module _ (places : Spans) where
+  pub steps_none : steps_on places 0 ≡ 0
   unfolding steps_on
   steps_none = refl
 
   -- one run more
-  pub steps_more : (n : ℕ) → steps_on first second (n + 1) ≡ steps_on first second n + gap (get_or first n 0) (get_or second n 0)
+  pub steps_more : (n : ℕ) → steps_on places (n + 1) ≡ steps_on places n + gap (get_or places.first n 0) (get_or places.second n 0)
   unfolding steps_on
   steps_more n =
-      let f : ℕ → ℕ = λ k. gap (get_or first k 0) (get_or second k 0) in
+      let f : ℕ → ℕ = λ k. gap (get_or places.first k 0) (get_or places.second k 0) in
       ap (λ m. sum f (below m)) (add-one n) ∙ omega (arith, sum_below f (suc n), sum_below f n)

@@ -32,9 +32,7 @@ use Rattle.plan.proofs.Whole.{entries_corners}
 use Rattle.job.proofs.Located.{one_stage}
 use Rattle.job.proofs.First.{first_applies}
 use Rattle.refusal.proofs.Numbers.{refusal_numbers}
-use Rattle.planner.specs.declared.Answer.{Answer}
-use Rattle.planner.specs.declared.Answer.TheVariants.{Planned, Refused}
-use Rattle.planner.specs.declared.Foretold.TheVariants as told
+use Rattle.std.specs.Prelude.{Result, Ok, Err}
 use Rattle.planner.specs.Verdict.{foretold_by, forecast_of, words_told, Words, judged, verdict}
 use Rattle.planner.specs.Call.{runs_of, numbers_of, plan_of, Said, gives, refuses, said, code_of, Plans}
 use Rattle.planner.specs.Forecast.{bytes_for}
@@ -192,7 +190,7 @@ words_left job words out (gives n) out' work work' b l w =
 words_left job words out (refuses number place) out' work work' b l w = w
 
 -- THE DEMANDS OF `plan`, from its contract
-pub plan_demands : (job work out : List ℕ) (answer : Answer) (work' out' : List ℕ) → Bytes job
+pub plan_demands : (job work out : List ℕ) (answer : Result ℕ Refusal) (work' out' : List ℕ) → Bytes job
     → Outcome (verdict job (length work) (length out)) out (said answer) out' × Words (forecast_of job) (said answer) work work' → PlanDemands job work out answer work' out'
 plan_demands job work out answer work' out' b call =
     let d = demands job (length work) out (said answer) out' b call.0 in
@@ -245,7 +243,7 @@ forecasts job b =
       refuses = λ x. (λ e. (first_applies job x).0 (refused_by x (parse job) e), λ f. ap foretold_by ((first_applies job x).1 f));
     }
   where
-    refused_by : (x : Refusal) (p : Parsed) → foretold_by p ≡ told.Refused x → p ≡ refused x
+    refused_by : (x : Refusal) (p : Parsed) → foretold_by p ≡ Err x → p ≡ refused x
     refused_by x (accepted number runs) e = absurd (let z : ◌≡◌ {A = ℕ} 0 1 = cc in omega arith)
     refused_by x (refused y) e = let z : y ≡ x = cc in ap refused z
 
@@ -277,9 +275,9 @@ pub never_minus_1 : (job out : List ℕ) (code : ℤ) (out' : List ℕ) → MapD
 never_minus_1 job out code out' d e = let (x, a, n) = told_refusal job 16384 out code out' d 0 e in never_short job (length out) x a n
 
 -- 10 CANNOT OCCUR: whatever `plan` answers, it says no number 10 ..
-pub never_10 : (answer : Answer) (place : ℕ) → said answer ≡ refuses 10 place → ⊥
-never_10 (Planned n) place e = no_plan n 10 place e
-never_10 (Refused x) place e = (refusal_numbers x).2 (same_number_lem (refusal_number x) (refusal_place x) e)
+pub never_10 : (answer : Result ℕ Refusal) (place : ℕ) → said answer ≡ refuses 10 place → ⊥
+never_10 (Ok n) place e = no_plan n 10 place e
+never_10 (Err x) place e = (refusal_numbers x).2 (same_number_lem (refusal_number x) (refusal_place x) e)
   where
     same_number_lem : (number at : ℕ) → refuses number at ≡ refuses 10 place → number ≡ 10
     same_number_lem number at q = cc

@@ -42,7 +42,7 @@ use Rattle.plan.specs.Records.{head_record, end_record}
 use Rattle.plan.specs.Plan.{Entry, book_bytes, entries_from, head_of, meets_of, centre_figure, drawn_bytes, plan_bytes}
 use Rattle.planner.specs.Verdict.{foretold_by, forecast_of, are_stars, judged, verdict}
 use Rattle.planner.specs.Call.{runs_of, numbers_of, Said, gives}
-use Rattle.planner.specs.declared.Foretold.TheVariants.{Needs}
+use Rattle.std.specs.Prelude.{Ok}
 use Rattle.planner.specs.Forecast.{touching, words_for, bytes_for}
 use Rattle.planner.specs.Figures.{plan_head, plan_entries}
 use Rattle.planner.specs.Outcome.{Outcome}
@@ -268,12 +268,12 @@ unfolding well_test rises plan_test least_test choices union_length same_routes 
 blank_plan number f = one_plan number [] (blank_head number) [] f refl refl refl refl
 
 -- job 7 needs 60 words, for 3 columns and 5 rows, and 157 bytes
-pub job_7_needs : forecast_of (bytes_of 7 job7_runs) ≡ Needs 60 157
+pub job_7_needs : forecast_of (bytes_of 7 job7_runs) ≡ Ok (record { words = 60; bytes = 157 })
 unfolding well_test rises touching spans insert
 job_7_needs = ap foretold_by (written_read 7 job7_runs (well_true 7 job7_runs (omega arith) refl))
 
 -- a job without runs needs no word, and 22 bytes
-pub blank_needs : (number : ℕ) → number < 2 ^ 32 → forecast_of (bytes_of number []) ≡ Needs 0 22
+pub blank_needs : (number : ℕ) → number < 2 ^ 32 → forecast_of (bytes_of number []) ≡ Ok (record { words = 0; bytes = 22 })
 unfolding well_test rises
 blank_needs number f = ap foretold_by (written_read number [] (well_true number [] f refl))
 

@@ -9,9 +9,8 @@ use lib.Seq.{ext_get_or}
 use Rattle.network.proofs.Numbers.{order}
 use Rattle.job.specs.declared.Run.{Run as Read}
 use Rattle.job.specs.declared.Job.{Job}
-use Rattle.job.specs.declared.Reading.{Reading}
-use Rattle.job.specs.declared.Found.{Found}
-use Rattle.job.specs.declared.Answer.TheVariants.{Accepted}
+use Rattle.std.specs.Prelude.{Result, Ok}
+use Rattle.refusal.specs.declared.Refusal.{Refusal}
 use Rattle.job.specs.Parse.{accepted, parse}
 use Rattle.job.specs.Reading.{column, job_of, Reads, runs_before, ReadsInto}
 use Rattle.job.specs.Written.{Bytes, no_run, InRange, WellFormed}
@@ -63,15 +62,14 @@ job_held j number runs q w =
     )
 
 -- what a reading that accepts hands on: a job that is held, and is the one that was parsed
-pub reading_held : (s : List ℕ) (r : Reading) → Bytes s → Reads s r → r.answer ≡ Accepted
-    → Held r.job × (parse s ≡ accepted r.job.number (runs_in r.job))
-reading_held s r b q a =
-    let t = reading_accepts s r b q a in
-    let (h, e) = job_held r.job t.number t.runs t.job t.well_formed in
+pub reading_held : (s : List ℕ) (r : Result Job Refusal) (j : Job) → Bytes s → Reads s r → r ≡ Ok j → Held j × (parse s ≡ accepted j.number (runs_in j))
+reading_held s r j b q a =
+    let t = reading_accepts s r j b q a in
+    let (h, e) = job_held j t.number t.runs t.job t.well_formed in
     (h, t.parsed ∙ e)
 
--- the same of a reading into arrays
-pub into_held : (s : List ℕ) (r : Found) (j : Job) → Bytes s → ReadsInto s r j → r.answer ≡ Accepted → Held j × (parse s ≡ accepted j.number (runs_in j))
+-- the same of a reading into a job
+pub into_held : (s : List ℕ) (r : Result (Unit {0}) Refusal) (j : Job) → Bytes s → ReadsInto s r j → r ≡ Ok tt → Held j × (parse s ≡ accepted j.number (runs_in j))
 into_held s r j b q a =
     let t = into_accepts s r j q b a in
     let (h, e) = job_held j j.number (runs_before s j.count) t.job t.well_formed in
@@ -84,7 +82,7 @@ map_table f g zero = refl
 map_table f g (suc n) = map-append f (table g n) (g n ∷ []) ∙ ap (λ l. l ++ (f (g n) ∷ [])) (map_table f g n)
 
 -- the runs in the plane are those of the four arrays
-pub plane_held : (j : Job) → runs_of (runs_in j) ≡ runs_held j.x1 j.y1 j.x2 j.y2 j.count
+pub plane_held : (j : Job) → runs_of (runs_in j) ≡ runs_held j.x.first j.y.first j.x.second j.y.second j.count
 unfolding runs_in runs_held
 plane_held j = map_table run_of (run_in j) j.count
 
@@ -100,7 +98,7 @@ module _ (j : Job) (h : Held j) where
   in_range k l = subst InRange (held_at j k l) (h.well_formed.in_range k (omega (arith, length_held j)))
 
   -- the coordinates are in their range
-  pub held_range : RunsInRange j.x1 j.y1 j.x2 j.y2 j.count
+  pub held_range : RunsInRange j.x.first j.y.first j.x.second j.y.second j.count
   held_range =
       record {
         few = held_few;

@@ -1,6 +1,7 @@
 -- What is judged of a job's runs by their sets of neighbours: the centres of their groups, how many groups there are, and the meets figures.
 use mathlib.Core.Path.{◌≡◌, refl, sym, ap, ◌∙◌}
-use mathlib.Core.Bool.{Bool, true, false}
+use Rattle.std.specs.Prelude.{Some, None}
+use mathlib.Core.Bool.{Bool, true, false, cond}
 use mathlib.Core.List.{List}
 use Prim.Native.Nat.{ℕ, ◌≤◌, ◌<◌}
 use native.Mathlib.Omega.{arith}
@@ -14,7 +15,6 @@ use Rattle.grid.proofs.Tables.{get_or_padded}
 use Rattle.groups.specs.Groups.{heads, group_count, all_stars, centre_of}
 use Rattle.groups.proofs.Stars.{centre_below, centres_count}
 use Rattle.intersection.specs.Centres.{meets_in, neighbour_sets, joined_in, centres_at, centres_in}
-use Rattle.intersection.specs.declared.finder.Centres.{Centres}
 use Rattle.intersection.proofs.Lists.{select_same}
 use Rattle.intersection.proofs.Held.{job_degree, sets_are, runs_graph}
 use Rattle.plan.specs.Plan.{meets_of}
@@ -36,19 +36,23 @@ module _ (runs : List Run) (n : ℕ) (few : n ≤ 32) (count : length runs ≡ n
 
   -- ---- the centres that were found
 
-  -- the answer tells whether every group is a star
-  pub stars_judged : (r : Centres) → r ≡ centres_in (meets_in runs) n → r.stars ≡ all_stars (meets_in runs) n
-  stars_judged r e = ap (λ (c : Centres). c.stars) e ∙ go (all_stars (meets_in runs) n) refl
+  -- there are none where some group is no star
+  pub none_judged : centres_in (meets_in runs) n ≡ None → all_stars (meets_in runs) n ≡ false
+  none_judged = go (all_stars (meets_in runs) n)
     where
-      go : (b : Bool) → all_stars (meets_in runs) n ≡ b → (centres_in (meets_in runs) n).stars ≡ b
-      go true q = rw q
-      go false q = rw q
+      go : (b : Bool) → cond b (Some (centres_at (meets_in runs) n)) None ≡ None → b ≡ false
+      go true e = absurd (let z : ◌≡◌ {A = ℕ} 0 1 = cc in omega arith)
+      go false e = refl
+
+  -- else every group is one, and they are in the array
+  pub some_judged : (centres : List ℕ) → centres_in (meets_in runs) n ≡ Some centres → (all_stars (meets_in runs) n ≡ true) × (centres ≡ centres_at (meets_in runs) n)
+  some_judged centres = go (all_stars (meets_in runs) n)
+    where
+      go : (b : Bool) → cond b (Some (centres_at (meets_in runs) n)) None ≡ Some centres → (b ≡ true) × (centres ≡ centres_at (meets_in runs) n)
+      go true e = let z : centres ≡ centres_at (meets_in runs) n = cc in (refl, z)
+      go false e = absurd (let z : ◌≡◌ {A = ℕ} 0 1 = cc in omega arith)
 
   module _ (stars : all_stars (meets_in runs) n ≡ true) where
-    -- and then their array
-    pub array_judged : (r : Centres) → r ≡ centres_in (meets_in runs) n → r.centres ≡ centres_at (meets_in runs) n
-    array_judged r e = ap (λ (c : Centres). c.centres) e ∙ rw stars
-
     module _ (centres : List ℕ) (are : centres ≡ centres_at (meets_in runs) n) where
       -- the centre of each run
       pub centre_judged : (i : ℕ) → i < n → get_or centres i 0 ≡ centre_of (meets_in runs) n i

@@ -1,6 +1,7 @@
 -- What is known of a job whose groups are stars: what the finder says of it, the figures that are told of it, and its lines.
 use mathlib.Core.Path.{◌≡◌, sym, ap, ◌∙◌, subst}
-use mathlib.Core.Bool.{Bool, true}
+use Rattle.std.specs.Prelude.{Option, Some, None}
+use mathlib.Core.Bool.{Bool, true, false}
 use mathlib.Core.List.{List}
 use Prim.Native.Nat.{ℕ, ◌<◌}
 use native.Mathlib.Omega.{arith}
@@ -15,8 +16,7 @@ use Rattle.grid.specs.Tables.{table, padded}
 use Rattle.grid.specs.Lines.{values, axis_of}
 use Rattle.grid.proofs.Tables.{get_or_padded}
 use Rattle.grid.proofs.Hanan.{axis_columns, axis_rows}
-use Rattle.intersection.specs.declared.finder.Centres.{Centres}
-use Rattle.intersection.specs.Centres.{meets_in, neighbour_sets, joined_in, centres_in}
+use Rattle.intersection.specs.Centres.{meets_in, neighbour_sets, joined_in, centres_at, centres_in}
 use Rattle.job.specs.declared.Job.{Job}
 use Rattle.plan.specs.Plan.{meets_of, centre_figure}
 use Rattle.planner.specs.Call.{runs_of, numbers_of}
@@ -24,7 +24,7 @@ use Rattle.planner.specs.Verdict.{are_stars}
 use Rattle.planner.specs.Held.{runs_in, Held}
 use Rattle.planner.specs.Stages.{Leased, Lined}
 use Rattle.planner.proofs.Held.{length_plane, plane_held, held_few, numbers_held}
-use Rattle.planner.proofs.Judged.{centres_judged, meets_judged, stars_judged, array_judged, centre_judged, centre_listed, groups_judged}
+use Rattle.planner.proofs.Judged.{centres_judged, meets_judged, none_judged, some_judged, centre_judged, centre_listed, groups_judged}
 
 module _ (j : Job) (sets centres : List ℕ) (S : Leased j sets centres) where
   -- the meets figures
@@ -56,29 +56,34 @@ module _ (j : Job) (sets centres : List ℕ) (S : Leased j sets centres) where
   leased_groups groups g = g ∙ groups_judged (runs_of (runs_in j)) j.count (held_few j S.held) (length_plane j) S.stars centres S.centres_are
 
 -- the axes of the job's arrays have the lines of its grid
-pub axes_held : (j : Job) (x y : Axis) → x ≡ axis_of (distinct (values j.x1 j.x2 j.count)) → y ≡ axis_of (distinct (values j.y1 j.y2 j.count))
+pub axes_held : (j : Job) (x y : Axis) → x ≡ axis_of (distinct (values j.x.first j.x.second j.count)) → y ≡ axis_of (distinct (values j.y.first j.y.second j.count))
     → Lined (runs_of (runs_in j)) x y
 axes_held j x y e f =
     subst (λ rs. Lined rs x y) (sym (plane_held j))
-    (record { columns_are = axis_columns j.x1 j.y1 j.x2 j.y2 j.count x e; rows_are = axis_rows j.x1 j.y1 j.x2 j.y2 j.count y f })
+    (record { columns_are = axis_columns j.x.first j.y.first j.x.second j.y.second j.count x e; rows_are = axis_rows j.x.first j.y.first j.x.second j.y.second j.count y f })
 
 -- ---- what the finder says
 
-module _ (j : Job) (h : Held j) (sets : List ℕ) (e : sets ≡ neighbour_sets (meets_in (runs_of (runs_in j))) j.count) (found : Centres)
+module _ (j : Job) (h : Held j) (sets : List ℕ) (e : sets ≡ neighbour_sets (meets_in (runs_of (runs_in j))) j.count) (found : Option (List ℕ))
     (f : found ≡ centres_in (joined_in sets) j.count) where
   -- it is said of the job's runs
   found_is : found ≡ centres_in (meets_in (runs_of (runs_in j))) j.count
   found_is = f ∙ centres_judged (runs_of (runs_in j)) j.count (held_few j h) (length_plane j) sets e
 
-  stars_are : found.stars ≡ all_stars (meets_in (runs_of (runs_in j))) j.count
-  stars_are = stars_judged (runs_of (runs_in j)) j.count (held_few j h) (length_plane j) found found_is
-
   -- whether every group is a star
-  pub found_stars : (b : Bool) → found.stars ≡ b → are_stars (runs_of (runs_in j)) ≡ b
-  found_stars b s = ap (all_stars (meets_in (runs_of (runs_in j)))) (length_plane j) ∙ sym stars_are ∙ s
+  stars_are : (b : Bool) → all_stars (meets_in (runs_of (runs_in j))) j.count ≡ b → are_stars (runs_of (runs_in j)) ≡ b
+  stars_are b s = ap (all_stars (meets_in (runs_of (runs_in j)))) (length_plane j) ∙ s
+
+  pub found_none : found ≡ None → are_stars (runs_of (runs_in j)) ≡ false
+  found_none n = stars_are false (none_judged (runs_of (runs_in j)) j.count (held_few j h) (length_plane j) (sym found_is ∙ n))
 
   -- and then the centres
-  pub found_leased : found.stars ≡ true → Leased j sets found.centres
-  found_leased s =
-      let t = sym stars_are ∙ s in
-      record { held = h; sets = e; stars = t; centres_are = array_judged (runs_of (runs_in j)) j.count (held_few j h) (length_plane j) t found found_is }
+  module _ (centres : List ℕ) (s : found ≡ Some centres) where
+    judged_some : (all_stars (meets_in (runs_of (runs_in j))) j.count ≡ true) × (centres ≡ centres_at (meets_in (runs_of (runs_in j))) j.count)
+    judged_some = some_judged (runs_of (runs_in j)) j.count (held_few j h) (length_plane j) centres (sym found_is ∙ s)
+
+    pub found_stars : are_stars (runs_of (runs_in j)) ≡ true
+    found_stars = stars_are true judged_some.0
+
+    pub found_leased : Leased j sets centres
+    found_leased = record { held = h; sets = e; stars = judged_some.0; centres_are = judged_some.1 }

@@ -15,4 +15,3 @@ pub mod Leased
 pub mod Writing
 pub mod Stages
 pub mod MapScreen
-pub mod Minus

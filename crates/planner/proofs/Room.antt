@@ -22,9 +22,10 @@ use Rattle.job.specs.declared.Run.{Run as Read}
 use Rattle.job.specs.Parse.{Parsed, accepted, refused, parse}
 use Rattle.job.specs.Written.{Bytes}
 use Rattle.job.proofs.Accepted.{accepted_well_formed}
-use Rattle.planner.specs.declared.Foretold.TheVariants.{Needs}
+use Rattle.std.specs.Prelude.{Ok}
+use Rattle.planner.specs.declared.Needs.{Needs}
 use Rattle.planner.specs.Call.{run_of, runs_of, numbers_of, plan_of}
-use Rattle.planner.specs.Forecast.{lines_at, words_for, bytes_for}
+use Rattle.planner.specs.Forecast.{lines_at, words_for, bytes_for, needs_of}
 use Rattle.planner.specs.Verdict.{foretold_by, forecast_of}
 use Rattle.planner.proofs.Fits.{lines_most, few_lines}
 use Rattle.planner.proofs.Touching.{touching_most, corners_touching}
@@ -82,13 +83,12 @@ plan_within number runs routes two m =
     )
 
 -- what a forecast tells is small
-pub needs_most : (job : List ℕ) (words bytes : ℕ) → Bytes job → forecast_of job ≡ Needs words bytes → (words ≤ 16384) × (bytes ≤ 36886)
-needs_most job words bytes b e = go (parse job) refl e
+pub needs_most : (job : List ℕ) (needs : Needs) → Bytes job → forecast_of job ≡ Ok needs → (needs.words ≤ 16384) × (needs.bytes ≤ 36886)
+needs_most job needs b e = go (parse job) refl e
   where
-    go : (p : Parsed) → parse job ≡ p → foretold_by p ≡ Needs words bytes → (words ≤ 16384) × (bytes ≤ 36886)
+    go : (p : Parsed) → parse job ≡ p → foretold_by p ≡ Ok needs → (needs.words ≤ 16384) × (needs.bytes ≤ 36886)
     go (accepted number runs) q f =
         let l = (accepted_well_formed job number runs b q).most in
-        let w : words_for (runs_of runs) ≡ words = cc in
-        let y : bytes_for (runs_of runs) ≡ bytes = cc in
-        (subst (λ n. n ≤ 16384) w (words_most runs l), subst (λ n. n ≤ 36886) y (bytes_most runs l))
+        let m : needs_of (runs_of runs) ≡ needs = cc in
+        subst (λ (k : Needs). (k.words ≤ 16384) × (k.bytes ≤ 36886)) m (words_most runs l, bytes_most runs l)
     go (refused x) q f = absurd (let z : ◌≡◌ {A = ℕ} 0 1 = cc in omega arith)

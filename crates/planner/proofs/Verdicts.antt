@@ -12,12 +12,11 @@ use Rattle.job.specs.declared.Run.{Run as Read}
 use Rattle.refusal.specs.declared.Refusal.{Refusal}
 use Rattle.refusal.specs.declared.Refusal.TheVariants.{ShortWork, ShortBuffer, NoStar}
 use Rattle.job.specs.Parse.{Parsed, accepted, refused, parse}
-use Rattle.job.specs.Reading.{place_said}
+use Rattle.job.specs.Reading.{answer_place, answer_said, place_said}
 use Rattle.job.specs.Written.{Bytes}
 use Rattle.job.proofs.Accepted.{accepted_well_formed}
-use Rattle.planner.specs.declared.Answer.TheVariants.{Refused}
-use Rattle.planner.specs.declared.Foretold.TheVariants.{Needs}
-use Rattle.planner.specs.Forecast.{words_for, bytes_for}
+use Rattle.std.specs.Prelude.{Ok, Err}
+use Rattle.planner.specs.Forecast.{words_for, bytes_for, needs_of}
 use Rattle.planner.specs.Verdict.{foretold_by, forecast_of, Words, are_stars, judged, weighed, verdict}
 use Rattle.planner.specs.Call.{runs_of, Said, gives, refuses, said, Plans}
 use Rattle.planner.specs.Outcome.{Outcome}
@@ -30,26 +29,26 @@ no_plan n number place e = let z : ◌≡◌ {A = ℕ} 0 1 = cc in omega arith
 
 -- what is lent, weighed against the words and bytes that are needed
 module _ (words bytes work out : ℕ) (p : Parsed) where
-  pub few_words : work < words → weighed (Needs words bytes) work out p ≡ refused ShortWork
+  pub few_words : work < words → weighed (Ok (record { words = words; bytes = bytes })) work out p ≡ refused ShortWork
   unfolding weighed
   few_words h = rw (lt-ltb work words h)
 
-  pub few_bytes : words ≤ work → out < bytes → weighed (Needs words bytes) work out p ≡ refused ShortBuffer
+  pub few_bytes : words ≤ work → out < bytes → weighed (Ok (record { words = words; bytes = bytes })) work out p ≡ refused ShortBuffer
   unfolding weighed
   few_bytes h k = rw (le-ltb work words h, lt-ltb out bytes k)
 
-  pub weighs : words ≤ work → bytes ≤ out → weighed (Needs words bytes) work out p ≡ p
+  pub weighs : words ≤ work → bytes ≤ out → weighed (Ok (record { words = words; bytes = bytes })) work out p ≡ p
   unfolding weighed
   weighs h k = rw (le-ltb work words h, le-ltb out bytes k)
 
 -- two numbers of words that are enough weigh alike
-pub same_weighed : (words bytes m work out : ℕ) (p : Parsed) → words ≤ m → words ≤ work → weighed (Needs words bytes) m out p ≡ weighed (Needs words bytes) work out p
+pub same_weighed : (words bytes m work out : ℕ) (p : Parsed) → words ≤ m → words ≤ work → weighed (Ok (record { words = words; bytes = bytes })) m out p ≡ weighed (Ok (record { words = words; bytes = bytes })) work out p
 unfolding weighed
 same_weighed words bytes m work out p h k = rw (le-ltb m words h, le-ltb work words k)
 
 -- of a job that is read, the forecast is weighed
 module _ (job : List ℕ) (number : ℕ) (runs : List Read) (e : parse job ≡ accepted number runs) where
-  pub read_weighed : (work out : ℕ) → verdict job work out ≡ weighed (Needs (words_for (runs_of runs)) (bytes_for (runs_of runs))) work out (judged (accepted number runs))
+  pub read_weighed : (work out : ℕ) → verdict job work out ≡ weighed (Ok (needs_of (runs_of runs))) work out (judged (accepted number runs))
   read_weighed work out = ap (λ p. weighed (foretold_by p) work out (judged p)) e
 
   -- with the forecast or more the job decides
@@ -87,6 +86,11 @@ judged_place (accepted number runs) = go (are_stars (runs_of runs))
     go true = refl
     go false = refl
 
+-- the place of the reader's answer
+pub answer_placed : (p : Parsed) → answer_place (answer_said p) ≡ place_said p
+answer_placed (accepted number runs) = refl
+answer_placed (refused x) = refl
+
 -- so have 1 and 2: the place of the verdict is the reader's
 pub verdict_place : (job : List ℕ) (work out : ℕ) → place_said (verdict job work out) ≡ place_said (parse job)
 unfolding weighed
@@ -104,7 +108,7 @@ verdict_place job work out = go (parse job)
         (ltb work (words_for (runs_of runs))) (ltb out (bytes_for (runs_of runs)))
 
 -- a job that cannot be read
-pub read_refused : (job out : List ℕ) (work : ℕ) (x : Refusal) → parse job ≡ refused x → Outcome (verdict job work (length out)) out (said (Refused x)) out
+pub read_refused : (job out : List ℕ) (work : ℕ) (x : Refusal) → parse job ≡ refused x → Outcome (verdict job work (length out)) out (said (Err x)) out
 read_refused job out work x e = rw (unread job x work (length out) e) (record { says = refl; plan_kept = refl })
 
 -- and one that can
@@ -118,7 +122,7 @@ read_accepted job work out number runs s work' out' e o w = (
 
 -- then the groups
 module _ (number : ℕ) (out : List ℕ) (runs : List Read) where
-  pub no_star : are_stars (runs_of runs) ≡ false → Outcome (judged (accepted number runs)) out (said (Refused NoStar)) out
+  pub no_star : are_stars (runs_of runs) ≡ false → Outcome (judged (accepted number runs)) out (said (Err NoStar)) out
   unfolding judged
   no_star e = rw e (record { says = refl; plan_kept = refl })
 

@@ -29,7 +29,7 @@ use Rattle.laying.specs.Lease.{Layout, drawn_by, LaidOut}
 use Rattle.planner.specs.Call.{runs_of, numbers_of, plan_of}
 use Rattle.planner.specs.Forecast.{bytes_for}
 use Rattle.planner.specs.Held.{runs_in, Held}
-use Rattle.planner.specs.Stages.{Lined, own_of}
+use Rattle.planner.specs.Stages.{Lined, own_of, Heading}
 use Rattle.planner.proofs.Held.{length_held, length_plane, held_few, numbers_held}
 use Rattle.planner.proofs.Fits.{runs_apart, few_lines, distances_bounded}
 use Rattle.planner.proofs.Room.{plan_within}
@@ -76,27 +76,26 @@ module _ (j : Job) (h : Held j) (laid : Layout) (L : LaidOut (runs_of (runs_in j
   pits_are = sym (pits_placed g lines_few.0 lines_few.1 g.columns g.rows (own_tables g) laid.routes L.on_grid) ∙ ap pits_of (sym own_is)
 
   -- the figures of the head
-  pub head_is : (number n groups total saved pits : ℕ) → number ≡ j.number → n ≡ j.count → groups ≡ group_count (meets g runs) j.count → groups ≤ j.count → total ≡ sum distance runs → saved ≡ laid.saved
-      → pits ≡ pits_of (map corners_of laid.routes) → pits ≤ 4064
+  pub head_is : (groups total saved pits : ℕ) → Heading j groups total saved pits laid
       → ◌≡◌ {A = Head}
       (record {
         grouped = true;
-        job = number;
-        runs = n % 65536;
+        job = j.number;
+        runs = j.count % 65536;
         trench = total - saved;
         saved = saved;
         pits = pits % 65536;
         last = groups % 65536;
       })
-      (head_of number runs (own_of runs laid))
-  head_is number n groups total saved pits m c s f t v p few =
-      let r : n % 65536 ≡ length runs = omega (arith, length_plane j, held_few j h) in
-      let u : total - saved ≡ union_length g (own_of runs laid) = ap₂ ◌-◌ t v ∙ trench_is in
-      let x = v ∙ saved_is in
-      let o : pits % 65536 ≡ pits_of (own_of runs laid) = omega (arith, pits_are) in
-      let k : groups % 65536 ≡ groups = omega (arith, f, held_few j h) in
-      let q : groups % 65536 ≡ group_count (meets g runs) (length runs) = k ∙ s ∙ ap (group_count (meets g runs)) (sym (length_plane j)) in
-      λ i. record { grouped = true; job = number; runs = r i; trench = u i; saved = x i; pits = o i; last = q i }
+      (head_of j.number runs (own_of runs laid))
+  head_is groups total saved pits H =
+      let r : j.count % 65536 ≡ length runs = omega (arith, length_plane j, held_few j h) in
+      let u : total - saved ≡ union_length g (own_of runs laid) = ap₂ ◌-◌ H.total_is H.saved_is ∙ trench_is in
+      let x = H.saved_is ∙ saved_is in
+      let o : pits % 65536 ≡ pits_of (own_of runs laid) = omega (arith, pits_are, H.pits_are, H.few_pits) in
+      let k : groups % 65536 ≡ groups = omega (arith, H.few, held_few j h) in
+      let q : groups % 65536 ≡ group_count (meets g runs) (length runs) = k ∙ H.groups_are ∙ ap (group_count (meets g runs)) (sym (length_plane j)) in
+      λ i. record { grouped = true; job = j.number; runs = r i; trench = u i; saved = x i; pits = o i; last = q i }
 
   -- the marks of as many vertices as the grid has are enough for them
   pub on_vertices : (columns rows : Axis) → Lined runs columns rows → (n : ℕ) → rows.count * columns.count ≤ n

@@ -1,14 +1,13 @@
 -- What a call says and leaves (document 01): "An accepted call gives the plan's length; the plan fills that many first bytes, later bytes are untouched; ..
 -- A refused call gives a number and a place and changes no byte or word." (What is left of the work words: `WordsLeft` of `Demands`.)
-use Rattle.std.specs.Prelude.{◌≡◌, List, ◌++◌, map, ℕ, ℤ, pos, neg_ℤ, length, drop}
+use Rattle.std.specs.Prelude.{◌≡◌, List, ◌++◌, map, ℕ, ℤ, pos, neg_ℤ, length, drop, Result, Ok, Err}
 use Rattle.network.specs.Plane.{Run, ◌to◌}
 use Rattle.network.specs.Hanan.{hanan}
 use Rattle.network.specs.Route.{Route, Least}
 use Rattle.job.specs.declared.Run.{Run as Read}
+use Rattle.refusal.specs.declared.Refusal.{Refusal}
 use Rattle.refusal.specs.Refusal.{refusal_number, refusal_place}
 use Rattle.plan.specs.Plan.{plan_bytes}
-use Rattle.planner.specs.declared.Answer.{Answer}
-use Rattle.planner.specs.declared.Answer.TheVariants.{Planned, Refused}
 
 -- ---- a job's runs in the plane, their numbers, and the plan of some routes of theirs
 
@@ -32,9 +31,9 @@ pub data Said : Type 0 where
   refuses : (number place : ℕ) → Said
 
 -- by the cases of the planner's answer
-abbrev pub said : Answer → Said
-said (Planned n) = gives n
-said (Refused x) = refuses (refusal_number x) (refusal_place x)
+abbrev pub said : Result ℕ Refusal → Said
+said (Ok n) = gives n
+said (Err x) = refuses (refusal_number x) (refusal_place x)
 
 -- what the map screen is told: "the plan's length, or minus the refusal number"
 abbrev pub code_of : Said → ℤ

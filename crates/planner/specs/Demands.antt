@@ -1,5 +1,5 @@
 -- THE THREE DEMANDS of a call, from what it is lent, what it says and what it leaves: of `plan`, and of the map screen's function, alike.
-use Rattle.std.specs.Prelude.{◌≡◌, ◌↔◌, List, ◌++◌, map, ℕ, ◌≤◌, ◌<◌, ℤ, pos, length, take, drop, replicate}
+use Rattle.std.specs.Prelude.{◌≡◌, ◌↔◌, List, ◌++◌, map, ℕ, ◌≤◌, ◌<◌, ℤ, pos, length, take, drop, replicate, Result, Ok, Err}
 use Rattle.network.specs.Lists.{All}
 use Rattle.network.specs.Plane.{Run}
 use Rattle.network.specs.Hanan.{hanan}
@@ -17,9 +17,7 @@ use Rattle.job.specs.Written.{WellFormed, bytes_of}
 use Rattle.plan.specs.declared.Head.{Head}
 use Rattle.plan.specs.Plan.{Entry, book_bytes}
 use Rattle.plan.specs.Fits.{PointIn, HeadFits}
-use Rattle.planner.specs.declared.Answer.{Answer}
-use Rattle.planner.specs.declared.Foretold.{Foretold}
-use Rattle.planner.specs.declared.Foretold.TheVariants.{Refused}
+use Rattle.planner.specs.declared.Needs.{Needs}
 use Rattle.planner.specs.Call.{runs_of, Said, gives, refuses, said, code_of, Plans}
 use Rattle.planner.specs.Forecast.{words_for, bytes_for, needs_of}
 
@@ -93,7 +91,7 @@ pub record Foreseen (job : List ℕ) (words : ℕ) (out : List ℕ) (s : Said) :
   pub fits : (j : JobIn job) (n : ℕ) → s ≡ gives n → n ≤ bytes_for (runs_of j.runs)
 
 -- `plan` answers and leaves this, the work words among it
-pub record PlanDemands (job work out : List ℕ) (answer : Answer) (work' out' : List ℕ) : Type 0 where
+pub record PlanDemands (job work out : List ℕ) (answer : Result ℕ Refusal) (work' out' : List ℕ) : Type 0 where
   pub demands : Demands job (length work) out (said answer) out'
   pub words : WordsLeft job (said answer) work work'
 
@@ -110,6 +108,6 @@ pub record LentDemands (job work out : List ℕ) (code : ℤ) (work' out' : List
   pub words : WordsLeft job map_demands.says work work'
 
 -- A forecast tells what a well-formed job needs, and refuses any other bytes with the first refusal of theirs that applies.
-pub record Forecasts (job : List ℕ) (told : Foretold) : Type 0 where
-  pub needs : (j : JobIn job) → told ≡ needs_of (runs_of j.runs)
-  pub refuses : (x : Refusal) → (told ≡ Refused x) ↔ FirstOf (AppliesIn job) x
+pub record Forecasts (job : List ℕ) (told : Result Needs Refusal) : Type 0 where
+  pub needs : (j : JobIn job) → told ≡ Ok (needs_of (runs_of j.runs))
+  pub refuses : (x : Refusal) → (told ≡ Err x) ↔ FirstOf (AppliesIn job) x

@@ -6,8 +6,7 @@ use Rattle.network.specs.Lists.{sum, count}
 use Rattle.network.specs.Plane.{Run}
 use Rattle.network.specs.Grid.{Grid, spans}
 use Rattle.network.specs.Hanan.{hanan}
-use Rattle.planner.specs.declared.Foretold.{Foretold}
-use Rattle.planner.specs.declared.Foretold.TheVariants.{Needs}
+use Rattle.planner.specs.declared.Needs.{Needs}
 
 -- how many of the lines touch a box that reaches from a to b
 unfoldable pub touching : List ℕ → ℕ → ℕ → ℕ
@@ -23,5 +22,5 @@ words_for runs = length (hanan runs).columns * length (hanan runs).rows * 4
 abbrev pub bytes_for : List Run → ℕ
 bytes_for runs = 22 + sum (λ r. 9 + 9 * (lines_at (hanan runs) r - 1)) runs
 
-abbrev pub needs_of : List Run → Foretold
-needs_of runs = Needs (words_for runs) (bytes_for runs)
+abbrev pub needs_of : List Run → Needs
+needs_of runs = record { words = words_for runs; bytes = bytes_for runs }

@@ -6,19 +6,15 @@ use Rattle.job.specs.Reading.{job_of}
 use Rattle.job.specs.Written.{WellFormed}
 use Rattle.grid.specs.Tables.{table}
 
--- the job of this number, with n runs in these arrays
-abbrev pub job_in : (number n : ℕ) (numbers x1 y1 x2 y2 : List ℕ) → Job
-job_in number n numbers x1 y1 x2 y2 = record { number = number; count = n; numbers = numbers; x1 = x1; y1 = y1; x2 = x2; y2 = y2 }
-
 -- run k
 abbrev pub run_in : Job → ℕ → Read
 run_in j k =
     record {
       number = get_or j.numbers k 0;
-      x1 = get_or j.x1 k 0;
-      y1 = get_or j.y1 k 0;
-      x2 = get_or j.x2 k 0;
-      y2 = get_or j.y2 k 0;
+      x1 = get_or j.x.first k 0;
+      y1 = get_or j.y.first k 0;
+      x2 = get_or j.x.second k 0;
+      y2 = get_or j.y.second k 0;
     }
 
 -- all runs, in their order

@@ -7,13 +7,9 @@ ghost use Rattle.planner.specs.Held.{runs_in};
 use job::Job;
 
 // The sets of the runs that each run of a job meets.
-pub fn neighbours_of(j: Job) -> [u32; 32]
-    requires { j.count ≤ 32 }
-    ensures { result ≡ neighbour_sets (meets_in (runs_of (runs_in j))) j.count }
+pub fn neighbours_of(j: &Job) -> [u32; 32]
+    requires { j.now.count ≤ 32 }
+    ensures { result ≡ neighbour_sets (meets_in (runs_of (runs_in j.now))) j.now.count }
 {
-    let x1 = j.x1;
-    let y1 = j.y1;
-    let x2 = j.x2;
-    let y2 = j.y2;
-    intersection::neighbours(&x1, &y1, &x2, &y2, j.count)
+    intersection::neighbours(&j.x, &j.y, j.count)
 }

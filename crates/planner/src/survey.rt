@@ -1,74 +1,47 @@
 // The lines of a job, the places of its runs' points among them, and what its forecast counts of both.
-ghost use Rattle.std.specs.Prelude.{◌≡◌, ◌+◌, ◌*◌, ◌≤◌, length, replicate};
-ghost use Rattle.planner.specs.Stages.{Placing, Within, steps_on};
+ghost use Rattle.std.specs.Prelude.{◌≡◌, ◌+◌, ◌*◌, ◌≤◌};
+ghost use Rattle.planner.specs.Stages.{Blank, Surveyed, Within, steps_on};
 
-use crate::Size;
+use job::{Job, Spans};
+use table::side::Survey;
 
-// Puts the lines of n runs on both axes among zeros, and the places of the runs' points among them, and says how many lines there are. The axes take turns: a line waits
-// for the one before it on its axis.
-pub fn lay_out(
-    n: usize,
-    x1: &[u32; 32],
-    y1: &[u32; 32],
-    x2: &[u32; 32],
-    y2: &[u32; 32],
-    columns: &mut [u32; 64],
-    rows: &mut [u32; 64],
-    xfirst: &mut [u32; 32],
-    xsecond: &mut [u32; 32],
-    yfirst: &mut [u32; 32],
-    ysecond: &mut [u32; 32],
-) -> Size
-    requires { (n ≤ 32) × (columns.old ≡ replicate 64 0) × (rows.old ≡ replicate 64 0) × (length xfirst.old ≡ 32) × (length xsecond.old ≡ 32)
-        × (length yfirst.old ≡ 32) × (length ysecond.old ≡ 32) }
-    ensures { Placing x1.now x2.now n result.across columns.new xfirst.new xsecond.new
-        × Placing y1.now y2.now n result.down rows.new yfirst.new ysecond.new }
+// Puts the lines of a job on both axes among zeros, and the places of its runs' points among them. The axes take turns: a line waits for the one before it on its axis.
+pub fn lay_out(job: &Job, x: &mut Survey, y: &mut Survey)
+    requires { (job.now.count ≤ 32) × Blank x.old × Blank y.old }
+    ensures { Surveyed job.now x.new y.new }
 {
-    let mut across: usize = 0;
-    let mut down: usize = 0;
-    let mut i: usize = 0;
-    while i < n {
-        across = grid::add_run(columns, across, x1, x2, i);
-        down = grid::add_run(rows, down, y1, y2, i);
-        i += 1;
+    for i in 0..job.count {
+        x.axis.add_run(&job.x, i);
+        y.axis.add_run(&job.y, i);
     }
-    table::side::places(&*columns, across, x1, x2, n, xfirst, xsecond);
-    table::side::places(&*rows, down, y1, y2, n, yfirst, ysecond);
-    Size { across, down }
+    x.place(&job.x, job.count);
+    y.place(&job.y, job.count);
 }
 
 // The words that planning needs: four for each vertex.
-pub fn words_for(size: Size) -> usize
-    requires { (size.across ≤ 64) × (size.down ≤ 64) }
-    ensures { result ≡ size.across * size.down * 4 }
+pub fn words_for(x: &Survey, y: &Survey) -> usize
+    requires { (x.now.axis.count ≤ 64) × (y.now.axis.count ≤ 64) }
+    ensures { result ≡ x.now.axis.count * y.now.axis.count * 4 }
 {
-    size.across * size.down * 4
+    x.axis.count * y.axis.count * 4
 }
 
 // How many steps from line to line n runs pass on one axis, together, from the places of their points.
-fn steps_on(n: usize, first: &[u32; 32], second: &[u32; 32]) -> usize
-    requires { (n ≤ 32) × Within first.now second.now n }
-    ensures { (result ≡ steps_on first.now second.now n) × (result ≤ 64 * n) }
+fn steps_on(n: usize, places: &Spans) -> usize
+    requires { (n ≤ 32) × Within places.now n }
+    ensures { (result ≡ steps_on places.now n) × (result ≤ 64 * n) }
 {
     let mut sum: usize = 0;
-    let mut k: usize = 0;
-    while k < n {
-        sum += table::frame::gap(first[k] as usize, second[k] as usize);
-        k += 1;
+    for k in 0..n {
+        sum += places.first[k].abs_diff(places.second[k]) as usize;
     }
     sum
 }
 
 // The bytes that the plan of n runs needs: a run's box is touched by one column and one row more than the run passes steps on the two axes.
-pub fn bytes_for(
-    n: usize,
-    xfirst: &[u32; 32],
-    xsecond: &[u32; 32],
-    yfirst: &[u32; 32],
-    ysecond: &[u32; 32],
-) -> usize
-    requires { (n ≤ 32) × Within xfirst.now xsecond.now n × Within yfirst.now ysecond.now n }
-    ensures { result ≡ 22 + 18 * n + 9 * (steps_on xfirst.now xsecond.now n + steps_on yfirst.now ysecond.now n) }
+pub fn bytes_for(n: usize, x: &Spans, y: &Spans) -> usize
+    requires { (n ≤ 32) × Within x.now n × Within y.now n }
+    ensures { result ≡ 22 + 18 * n + 9 * (steps_on x.now n + steps_on y.now n) }
 {
-    22 + 18 * n + 9 * (steps_on(n, xfirst, xsecond) + steps_on(n, yfirst, ysecond))
+    22 + 18 * n + 9 * (steps_on(n, x) + steps_on(n, y))
 }

@@ -9,97 +9,47 @@
 ghost use Rattle.std.specs.Prelude.{◌≡◌, ◌≤◌, length};
 
 use console::{Output, Screen};
-use planner::{Answer, Foretold};
+use planner::Needs;
 use records::Record;
 use refusal::Refusal;
 use std::io;
 
-fn print(screen: &mut Screen, words: &[u8]) {
-    screen.put(words);
-}
-
-fn print_number(screen: &mut Screen, n: u64) {
-    print(screen, b" ");
-    screen.put_decimal(n);
-}
-
-// The number of the refusal that a code tells; 0 if it tells none.
-fn refusal_of(code: i32) -> u64 {
-    match code {
-        -1 => 1,
-        -2 => 2,
-        -3 => 3,
-        -4 => 4,
-        -5 => 5,
-        -6 => 6,
-        -7 => 7,
-        -8 => 8,
-        -9 => 9,
-        -11 => 11,
-        -17 => 17,
-        _ => 0,
-    }
-}
-
 // Whether the first words, as many as are cleared, are 0, and the others are 3.
 fn words_kept(work: &[u32], cleared: usize) -> bool {
-    for i in 0..work.len() {
-        let due: u32 = if i < cleared { 0 } else { 3 };
-        if work[i] != due {
-            return false;
-        }
-    }
-    true
+    work.iter().take(cleared).all(|word| *word == 0)
+        & work.iter().skip(cleared).all(|word| *word == 3)
 }
 
 // Whether all bytes from a place on are 7.
 fn bytes_kept(out: &[u8], from: usize) -> bool {
-    let mut i = from;
-    while i < out.len() {
-        if out[i] != 7 {
-            return false;
-        }
-        i += 1;
-    }
-    true
+    out.iter().skip(from).all(|byte| *byte == 7)
 }
 
 fn print_refusal(screen: &mut Screen, refusal: Refusal) {
-    print_number(screen, refusal::number(refusal) as u64);
-    print_number(screen, refusal::place(refusal) as u64);
+    screen.put_number(u64::from(refusal::number(refusal)));
+    screen.put_number(refusal::place(refusal) as u64);
 }
 
 fn print_kept(screen: &mut Screen, kept: bool) {
-    if kept {
-        print(screen, b" kept");
-    } else {
-        print(screen, b" changed");
-    }
+    screen.put(if kept { b" kept" } else { b" changed" });
 }
 
 // The figures of a record.
 fn print_record(screen: &mut Screen, found: Record) {
     match found {
         Record::Head(head) => {
-            print_number(screen, head.last as u64);
-            print_number(screen, head.trench as u64);
-            print_number(screen, head.saved as u64);
-            print(screen, b" :");
+            screen.put_number(u64::from(head.last));
+            screen.put_number(u64::from(head.trench));
+            screen.put_number(u64::from(head.saved));
+            screen.put(b" :");
         }
-        Record::Route {
-            grouped,
-            number,
-            meets,
-            corners,
-            centre,
-        } => {
-            print_number(screen, meets as u64);
-            print_number(screen, centre as u64);
-            print(screen, b",");
+        Record::Route { meets, centre, .. } => {
+            screen.put_number(u64::from(meets));
+            screen.put_number(u64::from(centre));
+            screen.put(b",");
         }
-        Record::Corner { x, y } => {}
-        Record::End(_) => {}
-        Record::Other => print(screen, b" other"),
+        Record::Corner { .. } | Record::End(_) => {}
+        Record::Other => screen.put(b" other"),
     }
 }
 
@@ -122,102 +72,47 @@ fn print_figures(screen: &mut Screen, plan: &[u8]) -> usize {
 // The figures of a plan of this length, and whether its end record, which has 3 bytes, ends there and the bytes behind it are kept.
 fn plan_kept(screen: &mut Screen, out: &[u8], length: usize) -> bool {
     let end = print_figures(screen, out);
-    if end > 36883 {
-        return false;
-    }
-    (end + 3 == length) & bytes_kept(out, length)
-}
-
-fn length_code(n: usize) -> i32
-    requires { n ≤ 36886 }
-{
-    n as i32
-}
-
-// The same for the code that is the plan's length.
-fn map_plan_kept(screen: &mut Screen, out: &[u8], code: i32) -> bool {
-    let end = print_figures(screen, out);
-    if end > 36883 {
-        return false;
-    }
-    (length_code(end + 3) == code) & bytes_kept(out, end + 3)
+    (length.checked_sub(3) == Some(end)) & bytes_kept(out, length)
 }
 
 // What a code tells, the plan or the refusal, and whether the bytes that are not the plan's are kept.
 fn code_kept(screen: &mut Screen, job: &[u8], code: i32, out: &[u8]) -> bool {
     if code < 0 {
-        print_number(screen, refusal_of(code));
-        print_number(screen, planner::place_for_map(job) as u64);
+        screen.put_number(u64::from(code.unsigned_abs()));
+        screen.put_number(planner::place_for_map(job) as u64);
         return bytes_kept(out, 0);
     }
-    map_plan_kept(screen, out, code)
+    plan_kept(screen, out, code as usize)
 }
 
 // ---- the calls: of 16,400 words of 3 and 36,926 bytes of 7 the first are lent, and a plan clears so many words
-
-fn call_on(
-    screen: &mut Screen,
-    job: &[u8],
-    words: usize,
-    bytes: usize,
-    cleared: usize,
-    work: &mut [u32],
-    out: &mut [u8],
-)
-    requires { (words ≤ length work.old) × (bytes ≤ length out.old) }
-{
-    print(screen, b" |");
-    match planner::plan(job, &mut work[..words], &mut out[..bytes]) {
-        Answer::Planned(length) => {
-            let kept = plan_kept(screen, out, length);
-            print_kept(screen, kept & words_kept(work, cleared));
-        }
-        Answer::Refused(refusal) => {
-            print_refusal(screen, refusal);
-            print_kept(screen, words_kept(work, 0) & bytes_kept(out, 0));
-        }
-    }
-}
 
 fn call(screen: &mut Screen, job: &[u8], words: usize, bytes: usize, cleared: usize)
     requires { (words ≤ 16400) × (bytes ≤ 36926) }
 {
     let mut work = [3u32; 16400];
     let mut out = [7u8; 36926];
-    call_on(screen, job, words, bytes, cleared, &mut work, &mut out);
-}
-
-fn map_call_on(screen: &mut Screen, job: &[u8], bytes: usize, out: &mut [u8])
-    requires { bytes ≤ length out.old }
-{
-    print(screen, b" |");
-    let code = planner::plan_for_map(job, &mut out[..bytes]);
-    let kept = code_kept(screen, job, code, out);
-    print_kept(screen, kept);
+    screen.put(b" |");
+    match planner::plan(job, &mut work[..words], &mut out[..bytes]) {
+        Ok(length) => {
+            let kept = plan_kept(screen, &out, length);
+            print_kept(screen, kept & words_kept(&work, cleared));
+        }
+        Err(refusal) => {
+            print_refusal(screen, refusal);
+            print_kept(screen, words_kept(&work, 0) & bytes_kept(&out, 0));
+        }
+    }
 }
 
 fn map_call(screen: &mut Screen, job: &[u8], bytes: usize)
     requires { bytes ≤ 36926 }
 {
     let mut out = [7u8; 36926];
-    map_call_on(screen, job, bytes, &mut out);
-}
-
-fn lent_call_on(
-    screen: &mut Screen,
-    job: &[u8],
-    words: usize,
-    bytes: usize,
-    work: &mut [u32],
-    out: &mut [u8],
-)
-    requires { (words ≤ length work.old) × (bytes ≤ length out.old) }
-{
-    print(screen, b" |");
-    let code = planner::plan_in(job, &mut work[..words], &mut out[..bytes]);
-    let kept = code_kept(screen, job, code, out);
-    let cleared = if code < 0 { 0 } else { words };
-    print_kept(screen, kept & words_kept(work, cleared));
+    screen.put(b" |");
+    let code = planner::plan_for_map(job, &mut out[..bytes]);
+    let kept = code_kept(screen, job, code, &out);
+    print_kept(screen, kept);
 }
 
 fn lent_call(screen: &mut Screen, job: &[u8], words: usize, bytes: usize)
@@ -225,14 +120,11 @@ fn lent_call(screen: &mut Screen, job: &[u8], words: usize, bytes: usize)
 {
     let mut work = [3u32; 16400];
     let mut out = [7u8; 36926];
-    lent_call_on(screen, job, words, bytes, &mut work, &mut out);
-}
-
-// One less, but not below 0.
-fn less(n: usize) -> usize
-    ensures { result ≤ n }
-{
-    if n == 0 { 0 } else { n - 1 }
+    screen.put(b" |");
+    let code = planner::plan_in(job, &mut work[..words], &mut out[..bytes]);
+    let kept = code_kept(screen, job, code, &out);
+    let cleared = if code < 0 { 0 } else { words };
+    print_kept(screen, kept & words_kept(&work, cleared));
 }
 
 // The seven calls for a job of this forecast.
@@ -241,51 +133,43 @@ fn calls(screen: &mut Screen, job: &[u8], words: usize, bytes: usize)
 {
     call(screen, job, words, bytes, words);
     call(screen, job, words + 16, bytes + 40, words);
-    call(screen, job, less(words), bytes, words);
-    call(screen, job, words, less(bytes), words);
+    call(screen, job, words.saturating_sub(1), bytes, words);
+    call(screen, job, words, bytes.saturating_sub(1), words);
     map_call(screen, job, bytes);
-    map_call(screen, job, less(bytes));
+    map_call(screen, job, bytes.saturating_sub(1));
     lent_call(screen, job, words, bytes);
 }
 
 // A forecast above the most that a job can need is lent as the most. Where there is none, nothing is lent, or little.
 fn try_job(screen: &mut Screen, job: &[u8]) {
     match planner::forecast(job) {
-        Foretold::Needs(words, bytes) => {
-            print(screen, b" needs");
-            print_number(screen, words as u64);
-            print_number(screen, bytes as u64);
-            calls(
-                screen,
-                job,
-                hexadecimal::least(words, 16384),
-                hexadecimal::least(bytes, 36886),
-            );
+        Ok(Needs { words, bytes }) => {
+            screen.put(b" needs");
+            screen.put_number(words as u64);
+            screen.put_number(bytes as u64);
+            calls(screen, job, words.min(16384), bytes.min(36886));
         }
-        Foretold::Refused(refusal) => {
-            print(screen, b" refused");
+        Err(refusal) => {
+            screen.put(b" refused");
             print_refusal(screen, refusal);
             calls(screen, job, 0, 0);
         }
     }
-    print(screen, b"\n");
+    screen.put(b"\n");
 }
 
 fn try_line(screen: &mut Screen, line: &[u8]) {
     let space = hexadecimal::place_of(line, b' ', 0);
-    let digits = hexadecimal::least(space + 1, line.len());
-    print(screen, &line[..space]);
-    let mut bytes = console::buffer();
+    let digits = (space + 1).min(line.len());
+    screen.put(&line[..space]);
+    let mut bytes = [0u8; 4096];
     let n = hexadecimal::unhex(&line[digits..], &mut bytes);
     try_job(screen, &bytes[..n]);
 }
 
 fn try_lines(screen: &mut Screen, lines: &[u8]) {
-    let mut from: usize = 0;
-    while from < lines.len() {
-        let end = hexadecimal::place_of(lines, b'\n', from);
-        try_line(screen, &lines[from..end]);
-        from = end + 1;
+    for line in lines.split_inclusive(|b| *b == b'\n') {
+        try_line(screen, line.strip_suffix(b"\n").unwrap_or(line));
     }
 }
 

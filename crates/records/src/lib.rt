@@ -118,8 +118,8 @@ fn decode(kind: u8, body: &[u8]) -> Record
 pub fn first_record(book: &[u8]) -> Record
     ensures { result ≡ record_of book.now }
 {
-    if book.len() == 0 {
+    let [kind, body @ ..] = book else {
         return Record::Other;
-    }
-    decode(book[0], &book[1..])
+    };
+    decode(*kind, body)
 }

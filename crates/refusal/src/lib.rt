@@ -54,21 +54,19 @@ pub fn place(refusal: Refusal) -> usize
     ensures { result ≡ refusal_place refusal }
 {
     match refusal {
-        Refusal::ShortWork => 0,
-        Refusal::ShortBuffer => 0,
-        Refusal::Cut(at) => at,
-        Refusal::UnknownKind(at) => at,
-        Refusal::Misplaced(at) => at,
-        Refusal::WrongCount(at) => at,
-        Refusal::WrongNumber(at) => at,
-        Refusal::OutOfRange(at) => at,
-        Refusal::TooManyRuns(at) => at,
-        Refusal::NoStar => 0,
-        Refusal::NotWhole(at) => at,
-        Refusal::NoTurn(at) => at,
-        Refusal::Miscounted(at) => at,
-        Refusal::OtherJob(at) => at,
-        Refusal::Untrue(at) => at,
-        Refusal::Coincident(at) => at,
+        Refusal::ShortWork | Refusal::ShortBuffer | Refusal::NoStar => 0,
+        Refusal::Cut(at)
+        | Refusal::UnknownKind(at)
+        | Refusal::Misplaced(at)
+        | Refusal::WrongCount(at)
+        | Refusal::WrongNumber(at)
+        | Refusal::OutOfRange(at)
+        | Refusal::TooManyRuns(at)
+        | Refusal::NotWhole(at)
+        | Refusal::NoTurn(at)
+        | Refusal::Miscounted(at)
+        | Refusal::OtherJob(at)
+        | Refusal::Untrue(at)
+        | Refusal::Coincident(at) => at,
     }
 }

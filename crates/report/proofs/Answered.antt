@@ -11,8 +11,7 @@ use Rattle.job.specs.declared.Run.{Run as Read}
 use Rattle.refusal.specs.declared.Refusal.{Refusal}
 use Rattle.job.specs.Parse.{Parsed, accepted, refused, parse}
 use Rattle.job.specs.Written.{Bytes}
-use Rattle.planner.specs.declared.Answer.{Answer}
-use Rattle.planner.specs.declared.Answer.TheVariants.{Planned, Refused}
+use Rattle.std.specs.Prelude.{Result, Ok, Err}
 use Rattle.refusal.specs.Refusal.{refusal_number, refusal_place}
 use Rattle.refusal.proofs.Numbers.{same_refusal}
 use Rattle.planner.specs.Call.{runs_of, plan_of, gives, said}
@@ -21,25 +20,25 @@ use Rattle.planner.specs.Outcome.{Outcome}
 use Rattle.planner.proofs.Verdicts.{no_plan, most_lent}
 
 -- an answer, and what stands in the plan buffer: the plan of least routes, or the refusal
-pub data Answered (v : Parsed) (answer : Answer) (plan : List ℕ) : Type 0 where
+pub data Answered (v : Parsed) (answer : Result ℕ Refusal) (plan : List ℕ) : Type 0 where
   planned : (number : ℕ) (runs : List Read) (routes : List Route) (rest : List ℕ) → v ≡ accepted number runs → Least (hanan (runs_of runs)) (runs_of runs) routes
-      → answer ≡ Planned (length (plan_of number runs routes)) → plan ≡ plan_of number runs routes ++ rest → Answered v answer plan
-  refusing : (x : Refusal) → v ≡ refused x → answer ≡ Refused x → Answered v answer plan
+      → answer ≡ Ok (length (plan_of number runs routes)) → plan ≡ plan_of number runs routes ++ rest → Answered v answer plan
+  refusing : (x : Refusal) → v ≡ refused x → answer ≡ Err x → Answered v answer plan
 
 -- what an answer says tells it
-said_planned : (answer : Answer) (n : ℕ) → said answer ≡ gives n → answer ≡ Planned n
-said_planned (Planned m) n e = let z : m ≡ n = cc in ap Planned z
-said_planned (Refused x) n e = absurd (no_plan n (refusal_number x) (refusal_place x) (sym e))
+said_planned : (answer : Result ℕ Refusal) (n : ℕ) → said answer ≡ gives n → answer ≡ Ok n
+said_planned (Ok m) n e = let z : m ≡ n = cc in ap Ok z
+said_planned (Err x) n e = absurd (no_plan n (refusal_number x) (refusal_place x) (sym e))
 
-said_refused : (answer : Answer) (x : Refusal) → said answer ≡ said (Refused x) → answer ≡ Refused x
-said_refused (Planned m) x e = absurd (no_plan m (refusal_number x) (refusal_place x) e)
-said_refused (Refused y) x e =
+said_refused : (answer : Result ℕ Refusal) (x : Refusal) → said answer ≡ said (Err x) → answer ≡ Err x
+said_refused (Ok m) x e = absurd (no_plan m (refusal_number x) (refusal_place x) e)
+said_refused (Err y) x e =
     let number : refusal_number y ≡ refusal_number x = cc in
     let place : refusal_place y ≡ refusal_place x = cc in
-    ap Refused (same_refusal y x number place)
+    ap Err (same_refusal y x number place)
 
 -- a call with work words and a plan buffer of zeros, as many as are asked for
-pub answered : (job : List ℕ) (answer : Answer) (plan : List ℕ) → Bytes job
+pub answered : (job : List ℕ) (answer : Result ℕ Refusal) (plan : List ℕ) → Bytes job
     → Outcome (verdict job (length {A = ℕ} (replicate 16384 0)) (length {A = ℕ} (replicate 36886 0))) (replicate 36886 0) (said answer) plan
     → Answered (judged (parse job)) answer plan
 answered job answer plan b call =

@@ -19,8 +19,7 @@ use Rattle.job.proofs.First.{first_applies}
 use Rattle.job.proofs.Within.{applies_within}
 use Rattle.job.proofs.Prefix.{parse_prefix}
 use Rattle.fields.specs.Bytes.{Wrote}
-use Rattle.planner.specs.declared.Answer.{Answer}
-use Rattle.planner.specs.declared.Answer.TheVariants.{Planned, Refused}
+use Rattle.std.specs.Prelude.{Result, Ok, Err}
 use Rattle.planner.specs.Call.{runs_of, plan_of}
 use Rattle.planner.specs.Figures.{plan_head, plan_entries}
 use Rattle.planner.specs.Verdict.{judged}
@@ -43,9 +42,9 @@ judged_formed job number runs b e = (job_star job b number runs e).0
 
 -- ---- the answers of a call
 
-module _ (job : List ℕ) (answer : Answer) (plan : List ℕ) (s : Answered (judged (parse job)) answer plan) where
+module _ (job : List ℕ) (answer : Result ℕ Refusal) (plan : List ℕ) (s : Answered (judged (parse job)) answer plan) where
   -- a plan of this length stands in the first bytes of the plan buffer
-  pub plan_within : (k : ℕ) → answer ≡ Planned k → k ≤ length plan
+  pub plan_within : (k : ℕ) → answer ≡ Ok k → k ≤ length plan
   plan_within k a = go s
     where
       go : Answered (judged (parse job)) answer plan → k ≤ length plan
@@ -56,7 +55,7 @@ module _ (job : List ℕ) (answer : Answer) (plan : List ℕ) (s : Answered (jud
 
   module _ (text text' : List ℕ) (n : ℕ) where
     -- and their listing is what is due
-    pub plan_reported : Bytes job → (k : ℕ) → answer ≡ Planned k → Listed (listing_of (take k plan)) text text' n → Reported (judged (parse job)) text text' n
+    pub plan_reported : Bytes job → (k : ℕ) → answer ≡ Ok k → Listed (listing_of (take k plan)) text text' n → Reported (judged (parse job)) text text' n
     plan_reported b k a l = go s
       where
         go : Answered (judged (parse job)) answer plan → Reported (judged (parse job)) text text' n
@@ -71,7 +70,7 @@ module _ (job : List ℕ) (answer : Answer) (plan : List ℕ) (s : Answered (jud
         go (refusing x e r) = absurd (let z : ◌≡◌ {A = ℕ} 0 1 = cc in omega arith)
 
     -- so is a refusal's text
-    pub refusal_reported : (x : Refusal) → answer ≡ Refused x → Listed (refusal_text x) text text' n → Reported (judged (parse job)) text text' n
+    pub refusal_reported : (x : Refusal) → answer ≡ Err x → Listed (refusal_text x) text text' n → Reported (judged (parse job)) text text' n
     refusal_reported x a l = go s
       where
         go : Answered (judged (parse job)) answer plan → Reported (judged (parse job)) text text' n

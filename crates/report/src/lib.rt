@@ -6,8 +6,6 @@ ghost use Rattle.job.specs.Parse.{parse};
 ghost use Rattle.planner.specs.Verdict.{judged};
 ghost use Rattle.report.specs.Report.{Reported};
 
-use planner::Answer;
-
 // The text of a job's plan, or of its refusal, as much of it as there is room for, and how many bytes that is. The work words and the plan
 // buffer are its own, enough for every job.
 pub fn list_job(job: &[u8], text: &mut [u8]) -> usize
@@ -16,9 +14,8 @@ pub fn list_job(job: &[u8], text: &mut [u8]) -> usize
 {
     let mut work = [0u32; 16384];
     let mut out = [0u8; 36886];
-    let answer = planner::plan(job, &mut work, &mut out);
-    match answer {
-        Answer::Planned(length) => text::list_plan(&out[..length], text),
-        Answer::Refused(refusal) => text::list_refusal(refusal, text),
+    match planner::plan(job, &mut work, &mut out) {
+        Ok(length) => text::list_plan(&out[..length], text),
+        Err(refusal) => text::list_refusal(refusal, text),
     }
 }

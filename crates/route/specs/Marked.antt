@@ -7,6 +7,8 @@ use Rattle.network.specs.Route.{Route as Points, pieces}
 use Rattle.network.specs.Steps.{Dir, hor, ver}
 use Rattle.network.specs.Passes.{among, passes}
 use Rattle.route.specs.declared.Vertex.{Vertex}
+use Rattle.route.specs.declared.Heading.{Heading}
+use Rattle.route.specs.declared.Heading.TheVariants.{Standing, Row, Column}
 
 -- a vertex as a point of the grid of indexes
 abbrev pub indexes_of : Vertex → Point
@@ -38,16 +40,18 @@ pub record Counted (width height : ℕ) (ms ns : List ℕ) (added : Dir → Poin
   pub marked : (set : Dir → Point → Bool) → Marked width height ms set → Marked width height ns (λ d p. set d p || added d p)
   pub new : (set : Dir → Point → Bool) → Marked width height ms set → full width height ns ≡ full width height ms + n
 
--- the two directions are one
-abbrev pub along : Dir → Dir → Bool
-along hor hor = true
-along hor ver = false
-along ver hor = false
-along ver ver = true
+-- a heading goes along a direction
+abbrev pub along : Dir → Heading → Bool
+along hor Standing = false
+along hor Row = true
+along hor Column = false
+along ver Standing = false
+along ver Row = false
+along ver Column = true
 
--- a route that turns or ends at v sets both digits there, one that goes straight on in a direction sets that one
-abbrev pub visited : Vertex → Bool → Dir → Dir → Point → Bool
-visited v corner dir d p = same_point p (indexes_of v) && (corner || along d dir)
+-- a route that turns or ends at v sets both digits there, one that goes straight on sets that of its direction
+abbrev pub visited : Vertex → Bool → Heading → Dir → Point → Bool
+visited v corner heading d p = same_point p (indexes_of v) && (corner || along d heading)
 
 -- the digits of a route that is given by its corners
 abbrev pub touched : Points → Dir → Point → Bool

@@ -3,6 +3,7 @@ use Rattle.std.specs.Prelude.{List, [], ◌∷◌, ℕ, ◌+◌, ◌*◌, ◌≤
 use Rattle.network.specs.Lists.{All, each}
 use Rattle.network.specs.Plane.{gap}
 use Rattle.route.specs.declared.Track.{Track}
+use Rattle.route.specs.declared.Routes.{Routes}
 use Rattle.route.specs.Route.{Route, route_by, OnGrid, numbered}
 
 -- the track from (x1, y1) to (x2, y2)
@@ -22,3 +23,21 @@ pub record Stored (steps : List ℕ) (stride : ℕ) (tracks : ℕ → Track) (co
   pub few : count ≤ 32
   pub room : count * stride ≤ length steps
   pub on_grid : All (OnGrid numbered) (routes_in steps stride tracks count)
+
+-- ---- held in a struct
+
+-- the tracks
+abbrev pub tracks_in : Routes → ℕ → Track
+tracks_in r = tracks_of r.x.now.first r.y.now.first r.x.now.second r.y.now.second
+
+-- route k
+abbrev pub route_of : Routes → ℕ → Route
+route_of r k = route_by (drop (k * r.stride) r.steps.now) (tracks_in r k)
+
+-- all routes
+abbrev pub routes_of : Routes → List Route
+routes_of r = routes_in r.steps.now r.stride (tracks_in r) r.count
+
+-- they are on the grid, and have room
+abbrev pub AreStored : Routes → Type 0
+AreStored r = Stored r.steps.now r.stride (tracks_in r) r.count

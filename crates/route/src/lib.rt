@@ -2,15 +2,16 @@
 // among the columns or the rows.
 #![tactic(auto)]
 
-ghost use Rattle.std.specs.Prelude.{◌≡◌, ◌||◌, map, ℕ, ◌+◌, ◌*◌, ◌/◌, ◌<◌, ◌≤◌, length, get_or, take};
+ghost use Rattle.std.specs.Prelude.{◌≡◌, ◌||◌, map, ℕ, ◌+◌, ◌*◌, ◌/◌, ◌<◌, ◌≤◌, length, get_or, take, drop};
 ghost use Rattle.network.specs.Lists.{All};
-ghost use Rattle.network.specs.Plane.{gap};
 ghost use Rattle.network.specs.Steps.{hor, ver};
 ghost use Rattle.route.specs.Route.{dir_of, route_by, numbered, indexed, OnGrid, corners_of, corner_count};
-ghost use Rattle.route.specs.Stored.{track_of, tracks_of, routes_in, Stored};
+ghost use Rattle.route.specs.Stored.{track_of, tracks_in, routes_of, AreStored};
 ghost use Rattle.route.specs.Walker.{heading_of, following, ahead, standing, stepped, Room, Free};
 ghost use Rattle.route.specs.Marked.{digits, Clear, Counted, along, visited, touched};
 ghost use Rattle.network.specs.Pits.{pits_of};
+
+use job::Spans;
 
 // Where a column and a row cross.
 #[derive(Clone, Copy)]
@@ -29,12 +30,21 @@ pub struct Track {
     pub up: bool,
 }
 
+// Where a step goes: along the row, or along the column. A walker that has not moved stands; no step does, so that the first step turns: a
+// route's start is a corner.
+#[derive(Clone, Copy, PartialEq)]
+pub enum Heading {
+    Standing,
+    Row,
+    Column,
+}
+
 // A place on a route: the index of the next step, the vertex, and the heading of the step that led there.
 #[derive(Clone, Copy)]
 pub struct Walker {
     pub at: usize,
     pub here: Vertex,
-    pub heading: u8,
+    pub heading: Heading,
 }
 
 // The walker after a step, and whether the step turned at the vertex that it left.
@@ -51,22 +61,13 @@ pub struct Seen {
     pub corners: usize,
 }
 
-fn gap(a: u32, b: u32) -> usize
-    ensures { (result ≡ gap a b) × (result < 4294967296) }
-{
-    if a <= b {
-        (b - a) as usize
-    } else {
-        (a - b) as usize
-    }
-}
-
 // The track between two points, given by the indexes of their lines.
+#[tactic(auto, unfolding(network::specs::Plane::gap))]
 pub fn track_of(x1: u32, y1: u32, x2: u32, y2: u32) -> Track
     ensures { result ≡ track_of x1 y1 x2 y2 }
 {
     Track {
-        count: gap(x1, x2) + gap(y1, y2),
+        count: x1.abs_diff(x2) as usize + y1.abs_diff(y2) as usize,
         start: Vertex {
             column: x1 as usize,
             row: y1 as usize,
@@ -76,13 +77,14 @@ pub fn track_of(x1: u32, y1: u32, x2: u32, y2: u32) -> Track
     }
 }
 
-// The heading of a walker that has not moved. No step has it, so that the first step turns: a route's start is a corner.
-const STANDING: u8 = 2;
-
-fn heading_of(step: u8) -> u8
+fn heading_of(step: u8) -> Heading
     ensures { result ≡ heading_of (dir_of step) }
 {
-    if step == 0 { 0 } else { 1 }
+    if step == 0 {
+        Heading::Row
+    } else {
+        Heading::Column
+    }
 }
 
 fn following(line: usize, rises: bool) -> usize
@@ -92,20 +94,20 @@ fn following(line: usize, rises: bool) -> usize
     if rises { line + 1 } else { line - 1 }
 }
 
-fn ahead(track: Track, step: u8, v: Vertex) -> Vertex
-    requires { Free track.right track.up (dir_of step) v }
-    ensures { result ≡ ahead track.right track.up (dir_of step) v }
+fn ahead(track: Track, heading: Heading, v: Vertex) -> Vertex
+    requires { Free track.right track.up heading v }
+    ensures { result ≡ ahead track.right track.up heading v }
 {
-    if step == 0 {
-        Vertex {
+    match heading {
+        Heading::Standing => v,
+        Heading::Row => Vertex {
             column: following(v.column, track.right),
-            row: v.row,
-        }
-    } else {
-        Vertex {
-            column: v.column,
+            ..v
+        },
+        Heading::Column => Vertex {
             row: following(v.row, track.up),
-        }
+            ..v
+        },
     }
 }
 
@@ -113,26 +115,23 @@ impl Walker {
     pub fn start(track: Track) -> Self
         ensures { result ≡ standing track.start }
     {
-        let here = track.start;
         Walker {
             at: 0,
-            here,
-            heading: STANDING,
+            here: track.start,
+            heading: Heading::Standing,
         }
     }
 
     pub fn step(self, track: Track, steps: &[u8]) -> Stepped
         requires { (self.at < length steps.now)
-            × Free track.right track.up (dir_of (get_or steps.now self.at 0)) self.here }
+            × Free track.right track.up (heading_of (dir_of (get_or steps.now self.at 0))) self.here }
         ensures { result ≡ stepped (route_by steps.now track) self }
     {
-        let at = self.at;
-        let step = steps[at];
-        let here = ahead(track, step, self.here);
-        let heading = heading_of(step);
+        let heading = heading_of(steps[self.at]);
+        let here = ahead(track, heading, self.here);
         Stepped {
             walker: Walker {
-                at: at + 1,
+                at: self.at + 1,
                 here,
                 heading,
             },
@@ -149,38 +148,34 @@ const COLUMN: u8 = 2;
 const PIT: u8 = 3;
 
 // The digits of a vertex at which a route turns or ends, or else goes straight on with a heading.
-fn digits_of(corner: bool, heading: u8) -> u8
-    ensures { result ≡ digits (corner || along hor (dir_of heading)) (corner || along ver (dir_of heading)) }
+fn digits_of(corner: bool, heading: Heading) -> u8
+    ensures { result ≡ digits (corner || along hor heading) (corner || along ver heading) }
 {
     if corner {
-        PIT
-    } else if heading == 0 {
-        ROW
-    } else {
-        COLUMN
+        return PIT;
+    }
+    match heading {
+        Heading::Standing => 0,
+        Heading::Row => ROW,
+        Heading::Column => COLUMN,
     }
 }
 
-// Marks a vertex of a route, and says 1 if it is a pit only now, else 0. A row has `width` marks.
-fn mark(marks: &mut [u8], width: usize, v: Vertex, corner: bool, heading: u8) -> usize
+// Marks a vertex of a route, and gives the pits that came: one if it is a pit only now. A row has `width` marks.
+fn mark(marks: &mut [u8], width: usize, v: Vertex, corner: bool, heading: Heading) -> usize
     requires { (v.column < width) × (v.row * width + v.column < length marks.old) }
     ensures { ((height : ℕ) → v.row < height
-        → Counted width height marks.old marks.new (visited v corner (dir_of heading)) result) × (result ≤ 1) }
+        → Counted width height marks.old marks.new (visited v corner heading) result) × (result ≤ 1) }
 {
-    let column = v.column;
-    let row = v.row;
-    let k = row * width + column;
+    let k = v.row * width + v.column;
     let before = marks[k];
     let after = before | digits_of(corner, heading);
     marks[k] = after;
-    if (after == PIT) & (before != PIT) {
-        1
-    } else {
-        0
-    }
+    usize::from((after == PIT) & (before != PIT))
 }
 
 // Marks the vertices of a route, and counts the pits that came and the route's corners.
+#[tactic(auto, using(crate::proofs::Corners::corners_few))]
 fn mark_route(marks: &mut [u8], width: usize, track: Track, steps: &[u8]) -> Seen
     requires { OnGrid numbered (route_by steps.now track)
         × OnGrid (indexed width (length marks.old / width)) (route_by steps.now track) }
@@ -199,42 +194,60 @@ fn mark_route(marks: &mut [u8], width: usize, track: Track, steps: &[u8]) -> See
         }
         w = s.walker;
     }
-    pits += mark(marks, width, w.here, true, 0);
+    pits += mark(marks, width, w.here, true, w.heading);
     Seen { pits, corners }
 }
 
-// The pits of the first `count` routes, and the corners of each: every vertex of a route is marked, and the pits that come are counted. The steps
-// of route k stand in `routes` from k * stride on, and it leads from (x1[k], y1[k]) to (x2[k], y2[k]).
+// Routes, the first `count`: the steps of route k stand in `steps` from k * stride on, and it leads from its first point to its second.
+#[derive(Clone, Copy)]
+pub struct Routes<'a> {
+    pub steps: &'a [u8],
+    pub stride: usize,
+    pub x: &'a Spans,
+    pub y: &'a Spans,
+    pub count: usize,
+}
+
+impl<'a> Routes<'a> {
+    pub fn track(&self, k: usize) -> Track
+        requires { k < 32 }
+        ensures { result ≡ tracks_in self.now k }
+    {
+        track_of(
+            self.x.first[k],
+            self.y.first[k],
+            self.x.second[k],
+            self.y.second[k],
+        )
+    }
+
+    // The steps of route k, and those behind them.
+    pub fn steps_of(&self, k: usize) -> &'a [u8]
+        requires { k * self.now.stride ≤ length self.now.steps.now }
+        ensures { result.now ≡ drop (k * self.now.stride) self.now.steps.now }
+    {
+        &self.steps[k * self.stride..]
+    }
+}
+
+// The pits of the routes, and the corners of each: every vertex of a route is marked, and the pits that come are counted.
 pub fn mark_routes(
-    routes: &[u8],
-    stride: usize,
-    x1: &[u32; 32],
-    y1: &[u32; 32],
-    x2: &[u32; 32],
-    y2: &[u32; 32],
-    count: usize,
+    routes: &Routes,
     marks: &mut [u8],
     width: usize,
     corners: &mut [usize; 32],
 ) -> usize
-    requires { Stored routes.now stride (tracks_of x1.now y1.now x2.now y2.now) count
-        × All (OnGrid (indexed width (length marks.old / width))) (routes_in routes.now stride (tracks_of x1.now y1.now x2.now y2.now) count)
+    requires { AreStored routes.now × All (OnGrid (indexed width (length marks.old / width))) (routes_of routes.now)
         × Clear marks.old × (length corners.old ≡ 32) }
-    ensures { (result ≡ pits_of (map corners_of
-        (routes_in routes.now stride (tracks_of x1.now y1.now x2.now y2.now) count)))
+    ensures { (result ≡ pits_of (map corners_of (routes_of routes.now)))
         × (result ≤ 4064) × (length corners.new ≡ 32)
-        × (take count corners.new ≡ map corner_count
-        (routes_in routes.now stride (tracks_of x1.now y1.now x2.now y2.now) count)) }
+        × (take routes.now.count corners.new ≡ map corner_count (routes_of routes.now)) }
 {
-    let mut pits: usize = 0;
-    let mut i: usize = 0;
-    while i < count {
-        let track = track_of(x1[i], y1[i], x2[i], y2[i]);
-        let from = i * stride;
-        let seen = mark_route(marks, width, track, &routes[from..]);
-        corners[i] = seen.corners;
+    let mut pits = 0;
+    for k in 0..routes.count {
+        let seen = mark_route(marks, width, routes.track(k), routes.steps_of(k));
+        corners[k] = seen.corners;
         pits += seen.pits;
-        i += 1;
     }
     pits
 }

@@ -1,19 +1,18 @@
 -- Laws of the sets of leaves at the lines of an axis: a run's bit is put into the sets of its lines, and the sets grow run by run.
-use mathlib.Core.Path.{◌≡◌, refl, ◌∙◌, subst}
+use mathlib.Core.Path.{◌≡◌, refl}
 use mathlib.Core.Bool.{Bool, true, false, cond, ◌&&◌}
 use mathlib.Core.List.{List}
-use Prim.Native.Nat.{ℕ, ◌+◌, ◌*◌, ◌^◌, ◌≤◌, ◌<◌, min, max}
+use Prim.Native.Nat.{ℕ, ◌+◌, ◌^◌, ◌≤◌, ◌<◌, min, max}
 use native.Mathlib.Omega.{arith}
-use native.Mathlib.Nat.{two-pow-succ}
 use native.Mathlib.Decide.{dec_le, dec_lt}
 use native.Mathlib.Numerals.{add-one}
 use lib.Dec.{leb}
-use lib.Pow.{pow_mono}
-use lib.ListN.{length, get_or, set, length-set}
-use lib.Seq.{get_or-set_same, get_or-set_other}
+use lib.ListN.{length, get_or}
 use borrow.Author.Tests.{le-leb, lt-leb}
 use Rattle.intersection.specs.Sets.{has, pack}
 use Rattle.intersection.proofs.Digits.{pack_lt}
+use Rattle.table.specs.declared.frame.Line.{Line}
+use Rattle.table.specs.Frame.{line_in}
 use Rattle.table.specs.Side.{covers, leaf_on, leaves_on}
 
 -- ---- boxes on one axis
@@ -40,49 +39,23 @@ covers_high p q i h = go (leb (min p q) i)
 -- ---- one run put into the sets of its lines
 
 -- the lines from lo up to i have the bit, the others are as they were
-pub record Spread (bit lo : ℕ) (t s : List ℕ) (i : ℕ) : Type 0 where
-  pub size : length s ≡ 192
-  pub new : (j : ℕ) → lo ≤ j → j < i → get_or s (j * 3) 0 ≡ bit + get_or t (j * 3) 0
-  pub below : (j : ℕ) → j < lo → get_or s (j * 3) 0 ≡ get_or t (j * 3) 0
-  pub above : (j : ℕ) → i ≤ j → get_or s (j * 3) 0 ≡ get_or t (j * 3) 0
-
--- before the first line nothing has changed
-pub spread_none : (bit lo : ℕ) (t : List ℕ) → length t ≡ 192 → Spread bit lo t t lo
-spread_none bit lo t h = record { size = h; new = λ j a b. absurd (omega arith); below = λ j a. refl; above = λ j a. refl }
-
--- the bit is put into one line more
-pub spread_more : (bit lo : ℕ) (t s : List ℕ) (i : ℕ) → Spread bit lo t s i → lo ≤ i → i < 64
-    → Spread bit lo t (set s (i * 3) (bit + get_or s (i * 3) 0)) (i + 1)
-spread_more bit lo t s i r h k =
-    record {
-      size = length-set s (i * 3) (bit + get_or s (i * 3) 0) ∙ r.size;
-      new = λ j a b. new j a (dec_lt j i) b;
-      below = λ j a. get_or-set_other s (i * 3) (j * 3) (bit + get_or s (i * 3) 0) 0 (λ e. omega arith) ∙ r.below j a;
-      above = λ j a. get_or-set_other s (i * 3) (j * 3) (bit + get_or s (i * 3) 0) 0 (λ e. omega arith) ∙ r.above j (omega arith);
-    }
-  where
-    new : (j : ℕ) → lo ≤ j → Dec (j < i) → j < i + 1 → get_or (set s (i * 3) (bit + get_or s (i * 3) 0)) (j * 3) 0 ≡ bit + get_or t (j * 3) 0
-    new j a (yes l) b = get_or-set_other s (i * 3) (j * 3) (bit + get_or s (i * 3) 0) 0 (λ e. omega arith) ∙ r.new j a l
-    new j a (no n) b =
-        let e : j ≡ i = omega arith in
-        let f : i * 3 < length s = omega (arith, r.size) in
-        rw e (get_or-set_same s (i * 3) (bit + get_or s (i * 3) 0) 0 f ∙ omega (arith, r.above i (omega arith)))
+pub record Spread (bit lo : ℕ) (t s : List Line) (i : ℕ) : Type 0 where
+  pub size : length s ≡ 64
+  pub new : (j : ℕ) → lo ≤ j → j < i → (line_in s j).on ≡ bit + (line_in t j).on
+  pub below : (j : ℕ) → j < lo → (line_in s j).on ≡ (line_in t j).on
+  pub above : (j : ℕ) → i ≤ j → (line_in s j).on ≡ (line_in t j).on
 
 -- behind the last line exactly the box has got the bit
-pub spread_done : (bit lo hi : ℕ) (t s : List ℕ) (i : ℕ) → Spread bit lo t s i → lo ≤ hi → i ≡ hi + 1
-    → (j : ℕ) → get_or s (j * 3) 0 ≡ cond (covers lo hi j) bit 0 + get_or t (j * 3) 0
+pub spread_done : (bit lo hi : ℕ) (t s : List Line) (i : ℕ) → Spread bit lo t s i → lo ≤ hi → i ≡ hi + 1
+    → (j : ℕ) → (line_in s j).on ≡ cond (covers lo hi j) bit 0 + (line_in t j).on
 spread_done bit lo hi t s i r h e j = go (dec_lt j lo) (dec_le j hi)
   where
-    go : Dec (j < lo) → Dec (j ≤ hi) → get_or s (j * 3) 0 ≡ cond (covers lo hi j) bit 0 + get_or t (j * 3) 0
+    go : Dec (j < lo) → Dec (j ≤ hi) → (line_in s j).on ≡ cond (covers lo hi j) bit 0 + (line_in t j).on
     go (yes a) b = rw (covers_low lo hi j (omega arith)) (omega (arith, r.below j a))
     go (no a) (yes b) = rw (covers_in lo hi j (omega arith) (omega arith)) (r.new j (omega arith) (omega arith))
     go (no a) (no b) = rw (covers_high lo hi j (omega arith)) (omega (arith, r.above j (omega arith)))
 
 -- ---- the sets run by run
-
--- one bit more fits
-pub bit_fits : (k x : ℕ) → k < 32 → x < 2 ^ k → 2 ^ k + x < 2 ^ 32
-bit_fits k x h l = let e = subst (λ (m : ℕ). m ≤ 2 ^ 32) (two-pow-succ k) (pow_mono h) in omega arith
 
 -- the sets of no runs are empty
 pub leaves_none : (first second : List ℕ) (leaves i : ℕ) → leaves_on first second 0 leaves i ≡ 0

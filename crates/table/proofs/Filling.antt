@@ -1,8 +1,8 @@
 -- Filling, vertex by vertex: positions hold all products, a vertex that is put in changes no earlier word, and the rule of an earlier vertex reads
 -- earlier words alone. So "done below n" moves on by one.
+use mathlib.Core.Bool.{cond}
 use mathlib.Core.Path.{◌≡◌, refl, sym, ap, ap₂, ◌∙◌}
 use mathlib.Core.Logic.{◌⊎◌, inl, inr, ⊎_elim}
-use mathlib.Core.Bool.{cond}
 use mathlib.Core.List.{List}
 use Prim.Native.Nat.{ℕ, zero, suc, pred, ◌+◌, ◌-◌, ◌*◌, ◌≤◌, ◌<◌, max, zero-le, suc-le-suc}
 use native.Mathlib.Nat.{add-zero, mul-le-mul, mul-le-mul_right, suc-mul}
@@ -399,10 +399,6 @@ pub fit_same : (g : Group) (words words' : List ℕ) → length words' ≡ lengt
 fit_same g words words' e f =
     record { some_columns = f.some_columns; columns = f.columns; some_rows = f.some_rows; rows = f.rows; room = omega (arith, f.room); short = f.short }
 
--- nothing is done at the start
-done_none : (g : Group) (words : List ℕ) → Done g words 0
-done_none g words = record { ruled = λ d s t hs ht h. absurd (omega arith); low = λ a b ha h. absurd (omega arith) }
-
 -- with all done, the table has the local rule
 pub done_all : (g : Group) (words : List ℕ) → Done g words (g.h * g.w) → Ruled g words
 done_all g words d e s t hs ht = d.ruled e s t hs ht (spot_lt g e s t hs ht)
@@ -429,10 +425,6 @@ pub record Filled (g : Group) (first words : List ℕ) (p : ℕ) : Type 0 where
   pub fit : Fit g words
   pub done : Done g words p
   pub beyond : Beyond first words (p * 4)
-
--- where nothing is done
-pub filled_none : (g : Group) (words : List ℕ) → Fit g words → Filled g words words 0
-filled_none g words f = record { fit = f; done = done_none g words; beyond = beyond_none words 0 }
 
 -- where the words are the first ones
 pub filled_again : (g : Group) (first words : List ℕ) (p : ℕ) → Filled g first words p → Filled g words words p
@@ -473,12 +465,6 @@ position_last w zero hw hh = absurd (omega arith)
 position_last zero (suc h) hw hh = absurd (omega arith)
 position_last (suc w) (suc h) hw hh = omega (arith, suc-mul h (suc w))
 
--- there is a last vertex, with four words
-pub last_fits : (w h : ℕ) (words : List ℕ) → 1 ≤ w → 1 ≤ h → h * w * 4 ≤ length words → (1 ≤ h * w) × ((h * w - 1) * 4 + 3 < length words)
-last_fits w h words a b room =
-    let e = position_lt w h (pred w) (pred h) (omega arith) (omega arith) in
-    (omega arith, omega arith)
-
 -- the figure is the largest word there, less the start's 1
 pub figure_is : (w h : ℕ) (words : List ℕ) (n : ℕ) → 1 ≤ w → 1 ≤ h
     → n ≡ max (max (get_or words ((h * w - 1) * 4) 0) (get_or words ((h * w - 1) * 4 + 2) 0)) (start_of (h * w - 1)) → pred n ≡ figure_of w h words
@@ -498,8 +484,3 @@ enter_left words (suc a) p c col left row cross h = ap (λ c. enter_of (suc a) c
 -- the start is not counted
 pub start_none : (u : ℕ) → (u ≡ 0 → ⊥) → start_of u ≡ 0
 start_none u h = ap (λ t. cond t 1 0) (ne_eqb u 0 h)
-
--- and the words that it starts from are as light
-pub light_none : (x y : Pair) (start len : ℕ) → Light x y start len → Light x y 0 len
-light_none x y start len l =
-    record { along_best = l.along_best; along_run = l.along_run; across_best = l.across_best; begins = omega arith; short = l.short }

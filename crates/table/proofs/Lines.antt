@@ -1,12 +1,12 @@
 -- Laws of the frame's lines: counting forth and back, and the lines made of the sets and lengths of an axis.
-use mathlib.Core.Path.{◌≡◌, refl, ap, ◌∙◌}
+use mathlib.Core.Path.{◌≡◌, refl}
 use mathlib.Core.List.{List}
-use Prim.Native.Nat.{ℕ, zero, suc, ◌+◌, ◌-◌, ◌*◌, ◌≤◌, ◌<◌, max}
+use Prim.Native.Nat.{ℕ, zero, suc, ◌+◌, ◌-◌, ◌≤◌, ◌<◌, max}
 use native.Mathlib.Omega.{arith}
 use native.Mathlib.Decide.{ℕ_discrete, dec_lt}
 use native.Mathlib.Numerals.{add-one}
 use lib.Bits.{bit_and}
-use lib.ListN.{length, get_or, set, length-set}
+use lib.ListN.{length, get_or, set}
 use lib.Seq.{get_or-set_same, get_or-set_other}
 use borrow.Author.Count.{below_more}
 use borrow.Author.Tests.{lt-ltb, le-ltb}
@@ -14,7 +14,7 @@ use Rattle.network.specs.Plane.{gap}
 use Rattle.grid.specs.Lines.{length_at}
 use Rattle.table.specs.declared.frame.Line.{Line}
 use Rattle.table.specs.Side.{Rises}
-use Rattle.table.specs.Frame.{line_in, put_line, line_of, lower_of, frame_line}
+use Rattle.table.specs.Frame.{no_line, line_in, line_of, lower_of, frame_line}
 
 -- ---- counting
 
@@ -88,53 +88,10 @@ lower_rises lines p q i low r h e = rw (add-one low) (r low (go (dec_lt q p)))
 
 -- ---- the array of lines
 
--- it stays as long
-pub length_line : (t : List ℕ) (i : ℕ) (l : Line) → length (put_line t i l) ≡ length t
-unfolding put_line
-length_line t i l = simp length-set
-
--- the line that is put in
-line_same : (t : List ℕ) (i : ℕ) (l : Line) → length t ≡ 192 → i < 64 → line_in (put_line t i l) i ≡ l
-unfolding line_in put_line
-line_same t i l h k =
-    let a = set t (i * 3) l.on in
-    let b = set a (i * 3 + 1) l.into in
-    let e : length b ≡ 192 = length-set a (i * 3 + 1) l.into ∙ length-set t (i * 3) l.on ∙ h in
-    let f : length a ≡ 192 = length-set t (i * 3) l.on ∙ h in
-    rw (
-      get_or-set_other b (i * 3 + 2) (i * 3) l.len 0 (λ e. omega arith),
-      get_or-set_other a (i * 3 + 1) (i * 3) l.into 0 (λ e. omega arith),
-      get_or-set_same t (i * 3) l.on 0 (omega arith),
-      get_or-set_other b (i * 3 + 2) (i * 3 + 1) l.len 0 (λ e. omega arith),
-      get_or-set_same a (i * 3 + 1) l.into 0 (omega arith),
-      get_or-set_same b (i * 3 + 2) l.len 0 (omega arith),
-    )
-
--- and the others
-line_other : (t : List ℕ) (i j : ℕ) (l : Line) → (j ≡ i → ⊥) → line_in (put_line t i l) j ≡ line_in t j
-unfolding line_in put_line
-line_other t i j l h =
-    let a = set t (i * 3) l.on in
-    let b = set a (i * 3 + 1) l.into in
-    let same : (k : ℕ) → (k ≡ i * 3 → ⊥) → (k ≡ i * 3 + 1 → ⊥) → (k ≡ i * 3 + 2 → ⊥) → get_or (set b (i * 3 + 2) l.len) k 0 ≡ get_or t k 0 =
-    λ k x y z. get_or-set_other b (i * 3 + 2) k l.len 0 z ∙ get_or-set_other a (i * 3 + 1) k l.into 0 y ∙ get_or-set_other t (i * 3) k l.on 0 x in
-    rw (
-      same (j * 3) (λ e. omega arith) (λ e. omega arith) (λ e. omega arith),
-      same (j * 3 + 1) (λ e. omega arith) (λ e. omega arith) (λ e. omega arith),
-      same (j * 3 + 2) (λ e. omega arith) (λ e. omega arith) (λ e. omega arith),
-    )
-
--- what holds of each line below i, and of the line that is put in at i, holds of each line below i + 1
-pub line_next : (t : List ℕ) (i : ℕ) (l : Line) → length t ≡ 192 → i < 64 → (P : ℕ → Line → Type 0) → ((j : ℕ) → j < i → P j (line_in t j)) → P i l
-    → (j : ℕ) → j < i + 1 → P j (line_in (put_line t i l) j)
-line_next t i l h k P all here =
-    below_more (λ j. P j (line_in (put_line t i l) j)) i (λ j b. rw (line_other t i j l (λ e. omega arith)) (all j b)) (rw (line_same t i l h k) here)
-
 -- the sets of all lines stay where the line that is put in has its own
-pub sets_kept : (t : List ℕ) (i j : ℕ) (l : Line) → length t ≡ 192 → i < 64 → l.on ≡ get_or t (i * 3) 0 → get_or (put_line t i l) (j * 3) 0 ≡ get_or t (j * 3) 0
-unfolding line_in
-sets_kept t i j l h k e = go (ℕ_discrete j i)
+pub sets_kept : (t : List Line) (i j : ℕ) (l : Line) → i < length t → l.on ≡ (line_in t i).on → (line_in (set t i l) j).on ≡ (line_in t j).on
+sets_kept t i j l h e = go (ℕ_discrete j i)
   where
-    go : Dec (j ≡ i) → get_or (put_line t i l) (j * 3) 0 ≡ get_or t (j * 3) 0
-    go (yes q) = rw q (ap (λ x. x.on) (line_same t i l h k) ∙ e)
-    go (no q) = ap (λ x. x.on) (line_other t i j l q)
+    go : Dec (j ≡ i) → (line_in (set t i l) j).on ≡ (line_in t j).on
+    go (yes q) = rw (q, get_or-set_same t i l no_line h) e
+    go (no q) = rw (get_or-set_other t i j l no_line q)

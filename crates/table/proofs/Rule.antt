@@ -26,10 +26,6 @@ plus_max zero (suc b) l = let e : max 0 (suc b) ≡ suc b = omega arith in rw e 
 plus_max (suc a) zero l = let e : max (suc a) 0 ≡ suc a = omega arith in rw e (omega arith)
 plus_max (suc a) (suc b) l = rw (plus_some (max (suc a) (suc b)) l (λ e. omega arith)) (omega arith)
 
--- the largest of three, in another order
-pub max_three : (a b c : ℕ) → max a (max b c) ≡ max (max a b) c
-max_three a b c = omega arith
-
 -- an edge of the owner is left out
 pub unless_yes : (e : Edge) (o : ℕ) → e.own ≡ o → unless_own e o ≡ 0
 unfolding unless_own

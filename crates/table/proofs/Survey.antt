@@ -1,5 +1,5 @@
 -- From the arrays of a job to its sides, its group and its star: what the functions of this crate promise, put together. So the table that `fill` leaves
--- is exact for the star, `figure_of` answers the star's figure, and `trace_of` its traced moves.
+-- is exact for the star, `figure_of` answers the star's figure, and `put_walk` its traced moves.
 use mathlib.Core.Path.{◌≡◌, ap, ◌∙◌}
 use mathlib.Core.Bool.{true, false}
 use mathlib.Core.List.{List}
@@ -159,7 +159,7 @@ module _ (grid : Grid) (runs : List Run) (xs ys : Side) (c leaves : ℕ) (S : On
   pub star_figure : figure_of g.w g.h words ≡ figure (star_of (view_by grid xs ys c) runs (box_by grid xs ys c) c) (table_of g.w words)
   star_figure = figure_drawn g _ (group_drawn grid runs xs ys c leaves g S G C) words
 
-  -- THEOREM: the moves that `trace_of` answers are traced in it
+  -- THEOREM: the moves that `put_walk` puts in are traced in it
   pub star_traced : Traced (star_of (view_by grid xs ys c) runs (box_by grid xs ys c) c) (table_of g.w words) (walked g words)
   star_traced =
       rw (walked_trace g _ (group_drawn grid runs xs ys c leaves g S G C) words star_exact)

@@ -3,7 +3,7 @@ use mathlib.Core.Path.{◌≡◌, refl, sym, ap, ap₂, ◌∙◌}
 use mathlib.Core.Logic.{◌⊎◌, inl, inr}
 use mathlib.Core.Bool.{Bool, true, false, cond, ◌&&◌, ◌||◌}
 use mathlib.Core.List.{List, [], ◌∷◌, ◌++◌, reverse, reverse-cons}
-use Prim.Native.Nat.{ℕ, suc, pred, ◌+◌, ◌-◌, ◌*◌, ◌%◌, ◌^◌, ◌≤◌, ◌<◌}
+use Prim.Native.Nat.{ℕ, suc, pred, ◌+◌, ◌-◌, ◌%◌, ◌^◌, ◌≤◌, ◌<◌}
 use native.Mathlib.Nat.{mod-eq_of_lt}
 use native.Mathlib.Omega.{arith}
 use lib.Dec.{eqb, ltb}
@@ -19,9 +19,8 @@ use Rattle.intersection.proofs.Members.{lowest_is}
 use Rattle.table.specs.declared.frame.Line.{Line}
 use Rattle.table.specs.Frame.{Group}
 use Rattle.table.specs.declared.trace.Taken.{Taken}
-use Rattle.table.specs.Rule.{position, pair_of, edge_by, Fit}
+use Rattle.table.specs.Rule.{pair_of, edge_by}
 use Rattle.table.specs.Walk.{before_of, arrive_of, arrive_at, up_no, share_no, move_by, walk, begin, move_at}
-use Rattle.table.proofs.Filling.{position_lt, area}
 
 -- ---- the choice of a direction
 
@@ -83,12 +82,6 @@ pub record Held (g : Group) (words : List ℕ) (n : ℕ) (a b : ℕ) (steps shar
   pub whole : (f : ℕ → Move) → ((j : ℕ) → i ≤ j → f j ≡ move_at steps shares j) → table f i ≡ reverse (walk g words i t a b)
       → table f n ≡ reverse (walk g words n begin (pred g.w) (pred g.h))
 
--- at the last point nothing is held
-pub held_none : (g : Group) (words steps shares : List ℕ) → Fit g words → length steps ≡ 128 → length shares ≡ 128
-    → Held g words (pred g.w + pred g.h) (pred g.w) (pred g.h) steps shares begin (pred g.w + pred g.h)
-held_none g words steps shares f h k =
-    record { column = omega (arith, f.some_columns); row = omega (arith, f.some_rows); left = refl; steps_size = h; shares_size = k; whole = λ m same e. e }
-
 -- one move more
 pub held_more : (g : Group) (words : List ℕ) (n a b : ℕ) (steps shares : List ℕ) (t u : Taken) (i k m : ℕ) → i < 128
     → u ≡ arrive_at g words t a b → k ≡ up_no u.ver a b → k ≤ b → 1 - k ≤ a → k ≤ 1 → m ≡ share_no u g.cross
@@ -121,10 +114,3 @@ pub held_all : (g : Group) (words : List ℕ) (n a b : ℕ) (steps shares : List
     → table (move_at steps shares) n ≡ reverse (walk g words n begin (pred g.w) (pred g.h))
 unfolding walk
 held_all g words n a b steps shares t r = r.whole (move_at steps shares) (λ j h. refl) refl
-
--- the words of a vertex are in the table
-pub vertex_fits : (g : Group) (words : List ℕ) (a b : ℕ) → Fit g words → a < g.w → b < g.h → ((b * g.w + a) * 4 + 3 < length words) × (b * g.w + a < 4096)
-unfolding position
-vertex_fits g words a b f ha hb =
-    let p : b * g.w + a < g.h * g.w = position_lt g.w g.h a b ha hb in
-    (omega (arith, f.room), omega (arith, area g.w g.h f.columns f.rows))

@@ -1,6 +1,6 @@
 -- The centre's frame: columns and rows are counted from the centre's first point to its second, whichever way that is on the grid, and each line of
 -- the frame has the set of the leaves whose box has it.
-use Rattle.std.specs.Prelude.{◌≡◌, Bool, true, false, cond, ◌&&◌, ◌||◌, List, ℕ, zero, suc, ◌+◌, ◌-◌, ◌*◌, ◌≤◌, ltb, get_or, set}
+use Rattle.std.specs.Prelude.{◌≡◌, Bool, true, false, cond, ◌&&◌, ◌||◌, List, ℕ, zero, suc, ◌+◌, ◌-◌, ◌≤◌, ltb, get_or}
 use Rattle.std.specs.Int.Bits.{bit_and}
 use Rattle.network.specs.Plane.{gap}
 use Rattle.grid.specs.Lines.{length_at}
@@ -19,17 +19,17 @@ pub record Group : Type 0 where
   pub w : ℕ
   pub h : ℕ
 
--- line i of an array that holds three words a line
-unfoldable pub line_in : List ℕ → ℕ → Line
-line_in t i = record { on = get_or t (i * 3) 0; into = get_or t (i * 3 + 1) 0; len = get_or t (i * 3 + 2) 0 }
+-- a line that has nothing
+abbrev pub no_line : Line
+no_line = record { on = 0; into = 0; len = 0 }
 
--- the array with line i put in
-unfoldable pub put_line : List ℕ → ℕ → Line → List ℕ
-put_line t i l = set (set (set t (i * 3) l.on) (i * 3 + 1) l.into) (i * 3 + 2) l.len
+-- line i of an array of lines
+abbrev pub line_in : List Line → ℕ → Line
+line_in t i = get_or t i no_line
 
--- the group whose columns and rows two arrays hold
-abbrev pub group_of : List ℕ → List ℕ → Frame → Group
-group_of cols rows f = record { cols = line_in cols; rows = line_in rows; cross = f.cross; w = f.w; h = f.h }
+-- the group in a frame
+abbrev pub group_of : Frame → Group
+group_of f = record { cols = line_in f.cols; rows = line_in f.rows; cross = f.cross; w = f.w; h = f.h }
 
 -- ---- the lines that a run from position p to position q passes
 

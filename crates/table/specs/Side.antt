@@ -4,6 +4,7 @@ use Rattle.std.specs.Prelude.{◌≡◌, Bool, ◌&&◌, List, ℕ, suc, ◌≤�
 use Rattle.grid.specs.declared.Axis.{Axis}
 use Rattle.grid.specs.Lines.{index_of}
 use Rattle.intersection.specs.Sets.{has, pack}
+use Rattle.table.specs.declared.side.Survey.{Survey}
 
 -- the runs on one axis: the positions of their first and of their second points among the axis' lines, and these lines
 pub record Side : Type 0 where
@@ -14,6 +15,10 @@ pub record Side : Type 0 where
 -- the side that three arrays hold
 abbrev pub side_of : List ℕ → List ℕ → List ℕ → Side
 side_of first second lines = record { first = first; second = second; lines = lines }
+
+-- the side of a survey
+abbrev pub side_by : Survey → Side
+side_by s = side_of s.places.first s.places.second s.axis.lines
 
 -- l holds the positions of n values among the first m lines
 abbrev pub PlacesOf : List ℕ → ℕ → List ℕ → ℕ → List ℕ → Type 0

@@ -8,6 +8,7 @@ use Rattle.intersection.specs.Sets.{members}
 use Rattle.table.specs.declared.frame.Line.{Line}
 use Rattle.table.specs.declared.fill.Edge.{Edge}
 use Rattle.table.specs.declared.trace.Taken.{Taken}
+use Rattle.table.specs.declared.trace.Trace.{Trace}
 use Rattle.table.specs.Frame.{Group}
 use Rattle.table.specs.Rule.{line_at, position, pair_of, edge_by, unless_own}
 
@@ -91,16 +92,6 @@ begin = record { ver = false; run = false; edge = record { best = 0; run = 0; ow
 -- move i of two arrays
 abbrev pub move_at : List ℕ → List ℕ → ℕ → Move
 move_at steps shares i = move_by (get_or steps i 0) (get_or shares i 0)
-
--- the centre's steps, from its first point on, 0 along the row and 1 along the column; and for each step the leaf with which it is shared, or 32
-pub record Trace : Type 0 where
-  pub steps : List ℕ
-  pub shares : List ℕ
-  pub count : ℕ
-
--- the trace that two arrays hold
-abbrev pub trace_of : List ℕ → List ℕ → ℕ → Trace
-trace_of steps shares count = record { steps = steps; shares = shares; count = count }
 
 -- the moves that a trace holds, the first one first
 abbrev pub moves_of : Trace → List Move

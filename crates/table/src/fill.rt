@@ -1,5 +1,5 @@
 // The table of best sharing: four words a vertex, row after row, in the lent work words.
-ghost use Rattle.std.specs.Prelude.{◌≡◌, pred, ◌+◌, ◌-◌, ◌*◌, ◌^◌, ◌≤◌, ◌<◌, length};
+ghost use Rattle.std.specs.Prelude.{◌≡◌, ◌+◌, ◌-◌, ◌*◌, ◌^◌, ◌≤◌, ◌<◌, length};
 ghost use Rattle.sharing.specs.Table.{plus};
 ghost use Rattle.table.specs.Frame.{group_of};
 ghost use Rattle.table.specs.Rule.{pair_of, edge_by, unless_own, if_own, rule_of, start_of, Ruled, figure_of, Fit, Beyond, four, enter_of, into_of, Light, Near, cell_in};
@@ -75,12 +75,13 @@ pub fn edge_by(x: Pair, along: Line, across: Line) -> Edge
     }
 }
 
-// The words of an edge with the owner o and the length len, from the edges along and across that end where it begins.
+// The words of an edge with the owner o and the length len, from the edges along and across that end where it begins. In this order of the values the compiler joins the two
+// tests of the owner of the edge along: in another, filling took up to a quarter longer.
 fn rule(along: Edge, across: Edge, start: u32, o: u32, len: u32, cross: u32) -> Pair
     requires { (along.best < 2 ^ 31) × (along.run < 2 ^ 31) × (across.best < 2 ^ 31) × (start < 2 ^ 31) × (len < 2 ^ 31) }
     ensures { result ≡ rule_of along across start o len cross }
 {
-    let all = grid::most(along.best, grid::most(across.best, start));
+    let all = start.max(across.best).max(along.best);
     if o == 0 {
         return Pair { best: all, run: 0 };
     }
@@ -90,13 +91,10 @@ fn rule(along: Edge, across: Edge, start: u32, o: u32, len: u32, cross: u32) -> 
             run: 0,
         };
     }
-    let new = grid::most(
-        unless_own(along, o),
-        grid::most(unless_own(across, o), start),
-    );
-    let run = plus_len(grid::most(new, if_own(along, o)), len);
+    let new = start.max(unless_own(across, o)).max(unless_own(along, o));
+    let run = plus_len(if_own(along, o).max(new), len);
     Pair {
-        best: grid::most(all, run),
+        best: run.max(all),
         run,
     }
 }
@@ -229,17 +227,10 @@ fn inner_vertex(
     Cell { hor: x, ver: y }
 }
 
-// The line before line i; the first line for itself.
-fn line_before(i: usize) -> usize
-    ensures { result ≡ pred i }
-{
-    if i == 0 { 0 } else { i - 1 }
-}
-
 // The table of the group, in the first 4 * h * w work words: the first row, then of each further row the first vertex and the others.
-pub fn fill(work: &mut [u32], cols: &[u32; 192], rows: &[u32; 192], g: Frame)
-    requires { Fit (group_of cols.now rows.now g) work.old }
-    ensures { Ruled (group_of cols.now rows.now g) work.new × Beyond work.old work.new (g.h * g.w * 4) }
+pub fn fill(work: &mut [u32], g: &Frame)
+    requires { Fit (group_of g.now) work.old }
+    ensures { Ruled (group_of g.now) work.new × Beyond work.old work.new (g.now.h * g.now.w * 4) }
 {
     let w = g.w;
     let h = g.h;
@@ -249,46 +240,38 @@ pub fn fill(work: &mut [u32], cols: &[u32; 192], rows: &[u32; 192], g: Frame)
         hor: zero,
         ver: zero,
     };
-    let first = crate::frame::line_in(cols, 0);
-    let base = crate::frame::line_in(rows, 0);
+    let first = g.cols[0];
+    let base = g.rows[0];
     let mut lead = none;
-    let mut p: usize = 0;
-    while p < w {
-        let j = line_before(p);
-        let col = crate::frame::line_in(cols, p);
-        let left = crate::frame::line_in(cols, j);
+    for p in 0..w {
+        let col = g.cols[p];
+        let left = g.cols[p.saturating_sub(1)];
         let cell = vertex(work, w, p, 0, p, lead, col, left, base, base, cross);
         lead = cell;
-        p += 1;
     }
-    let mut b: usize = 1;
-    while b < h {
-        let i = line_before(b);
-        let row = crate::frame::line_in(rows, b);
-        let below = crate::frame::line_in(rows, i);
+    let mut p = w;
+    for b in 1..h {
+        let row = g.rows[b];
+        let below = g.rows[b - 1];
         let mut last = vertex(work, w, 0, b, p, none, first, first, row, below, cross);
         p += 1;
-        let mut a: usize = 1;
-        while a < w {
-            let j = line_before(a);
-            let col = crate::frame::line_in(cols, a);
-            let left = crate::frame::line_in(cols, j);
+        for a in 1..w {
+            let col = g.cols[a];
+            let left = g.cols[a - 1];
             let cell = inner_vertex(work, w, a, b, p, last, col, left, row, below, cross);
             last = cell;
             p += 1;
-            a += 1;
         }
-        b += 1;
     }
 }
 
 // What the best walk to the last vertex shares.
-pub fn figure_of(work: &[u32], g: Frame) -> u32
-    requires { (1 ≤ g.w) × (1 ≤ g.h) × (g.h * g.w * 4 ≤ length work.now) }
-    ensures { result ≡ figure_of g.w g.h work.now }
+pub fn figure_of(work: &[u32], g: &Frame) -> u32
+    requires { (1 ≤ g.now.w) × (1 ≤ g.now.h) × (g.now.h * g.now.w * 4 ≤ length work.now) }
+    ensures { result ≡ figure_of g.now.w g.now.h work.now }
 {
     let p = g.h * g.w - 1;
     let i = p * 4;
-    let n = grid::most(grid::most(work[i], work[i + 2]), start_at(p));
-    if n == 0 { 0 } else { n - 1 }
+    let n = work[i].max(work[i + 2]).max(start_at(p));
+    n.saturating_sub(1)
 }

@@ -1,65 +1,69 @@
 // The runs of a job on one axis: where their points stand among the axis' lines, and which leaves' boxes have a line of the centre's frame.
-ghost use Rattle.std.specs.Prelude.{◌≡◌, cond, ◌&&◌, ℕ, ◌+◌, ◌*◌, ◌^◌, ◌≤◌, ◌<◌, min, max, length, get_or};
+ghost use Rattle.std.specs.Prelude.{◌≡◌, cond, ◌&&◌, [], ℕ, ◌+◌, ◌^◌, ◌≤◌, ◌<◌, length, replicate};
 ghost use Rattle.network.specs.Plane.{gap};
+ghost use Rattle.grid.specs.Lines.{axis_of};
 ghost use Rattle.intersection.specs.Sets.{has};
 ghost use Rattle.table.specs.Side.{PlacesOf, Placed, covers, leaves_on};
-ghost use Rattle.table.specs.Frame.{line_of};
+ghost use Rattle.table.specs.Frame.{line_in, line_of};
 
-fn least(a: usize, b: usize) -> usize
-    ensures { result ≡ min a b }
-{
-    if a < b { a } else { b }
+use crate::frame::Line;
+use grid::Axis;
+use job::Spans;
+
+// A job on one axis: its lines, and the positions of its runs' points among them.
+#[derive(Clone, Copy)]
+pub struct Survey {
+    pub axis: Axis,
+    pub places: Spans,
 }
 
-fn most(a: usize, b: usize) -> usize
-    ensures { result ≡ max a b }
-{
-    if a < b { b } else { a }
-}
+impl Survey {
+    // No line and no place.
+    pub fn new() -> Survey
+        ensures { result ≡ record { axis = axis_of []; places = record { first = replicate 32 0; second = replicate 32 0 } } }
+    {
+        Survey {
+            axis: Axis::new(),
+            places: Spans {
+                first: [0; 32],
+                second: [0; 32],
+            },
+        }
+    }
 
-// The positions of n runs' first and second values among the first count lines.
-pub fn places(
-    lines: &[u32; 64],
-    count: usize,
-    first: &[u32; 32],
-    second: &[u32; 32],
-    n: usize,
-    t: &mut [u32; 32],
-    u: &mut [u32; 32],
-)
-    requires { (count ≤ 64) × (n ≤ 32) × (length t.old ≡ 32) × (length u.old ≡ 32) }
-    ensures { PlacesOf lines.now count first.now n t.new × PlacesOf lines.now count second.now n u.new
-        × (length t.new ≡ 32) × (length u.new ≡ 32) }
-{
-    let mut k: usize = 0;
-    while k < n {
-        let at = grid::positions(lines, count, first[k], second[k]);
-        t[k] = at.first;
-        u[k] = at.second;
-        k += 1;
+    // Puts the places of n runs' values among the lines.
+    pub fn place(&mut self, values: &Spans, n: usize)
+        requires { (self.old.axis.count ≤ 64) × (n ≤ 32) × (length self.old.places.first ≡ 32) × (length self.old.places.second ≡ 32) }
+        ensures { PlacesOf self.old.axis.lines self.old.axis.count values.now.first n self.new.places.first
+            × PlacesOf self.old.axis.lines self.old.axis.count values.now.second n self.new.places.second
+            × (self.new.axis ≡ self.old.axis) × (length self.new.places.first ≡ 32) × (length self.new.places.second ≡ 32) }
+    {
+        for k in 0..n {
+            let at = self.axis.positions(values.first[k], values.second[k]);
+            self.places.first[k] = at.first;
+            self.places.second[k] = at.second;
+        }
     }
 }
 
 // The sets with one more member, which has the bit given and is in none of them, at the frame's lines from lo to hi.
-fn spread(t: &mut [u32; 192], bit: u32, lo: usize, hi: usize)
-    requires { (length t.old ≡ 192) × (lo ≤ hi) × (hi < 64) × ((i : ℕ) → i ≤ hi → bit + get_or t.old (i * 3) 0 < 2 ^ 32) }
-    ensures { (length t.new ≡ 192) × ((i : ℕ) → get_or t.new (i * 3) 0 ≡ cond (covers lo hi i) bit 0 + get_or t.old (i * 3) 0) }
+fn spread(t: &mut [Line; 64], bit: u32, lo: usize, hi: usize)
+    requires { (length t.old ≡ 64) × (lo ≤ hi) × (hi < 64) × ((i : ℕ) → i ≤ hi → bit + (line_in t.old i).on < 2 ^ 32) }
+    ensures { (length t.new ≡ 64) × ((i : ℕ) → (line_in t.new i).on ≡ cond (covers lo hi i) bit 0 + (line_in t.old i).on) }
 {
-    let mut i = lo;
-    while i <= hi {
-        t[i * 3] = bit + t[i * 3];
-        i += 1;
+    for i in lo..hi + 1 {
+        t[i].on = bit + t[i].on;
     }
 }
 
 // The sets with one more member at those of the frame's lines, from position p to position q, that the box from a to b has.
-fn put_box(t: &mut [u32; 192], bit: u32, a: usize, b: usize, p: usize, q: usize)
-    requires { (length t.old ≡ 192) × (p < 64) × (q < 64) × ((i : ℕ) → i ≤ gap p q → bit + get_or t.old (i * 3) 0 < 2 ^ 32) }
-    ensures { (length t.new ≡ 192)
-        × ((i : ℕ) → i ≤ gap p q → get_or t.new (i * 3) 0 ≡ cond (covers a b (line_of p q i)) bit 0 + get_or t.old (i * 3) 0) }
+fn put_box(t: &mut [Line; 64], bit: u32, a: usize, b: usize, p: usize, q: usize)
+    requires { (length t.old ≡ 64) × (p < 64) × (q < 64) × ((i : ℕ) → i ≤ gap p q → bit + (line_in t.old i).on < 2 ^ 32) }
+    ensures { (length t.new ≡ 64)
+        × ((i : ℕ) → i ≤ gap p q → (line_in t.new i).on ≡ cond (covers a b (line_of p q i)) bit 0 + (line_in t.old i).on) }
 {
-    let lo = most(least(a, b), least(p, q));
-    let hi = least(most(a, b), most(p, q));
+    let lo = a.min(b).max(p.min(q));
+    let hi = a.max(b).min(p.max(q));
     if hi < lo {
         return;
     }
@@ -71,48 +75,29 @@ fn put_box(t: &mut [u32; 192], bit: u32, a: usize, b: usize, p: usize, q: usize)
 }
 
 // The sets with run k, which is above their members, if it is a leaf; its points are at positions a and b.
-fn put_run(t: &mut [u32; 192], leaves: u32, k: usize, a: usize, b: usize, p: usize, q: usize)
-    requires { (length t.old ≡ 192) × (k < 32) × (p < 64) × (q < 64) × ((i : ℕ) → i ≤ gap p q → get_or t.old (i * 3) 0 < 2 ^ k) }
-    ensures { (length t.new ≡ 192)
-        × ((i : ℕ) → i ≤ gap p q → get_or t.new (i * 3) 0 ≡ cond (has leaves k && covers a b (line_of p q i)) (2 ^ k) 0 + get_or t.old (i * 3) 0) }
+fn put_run(t: &mut [Line; 64], leaves: u32, k: usize, a: usize, b: usize, p: usize, q: usize)
+    requires { (length t.old ≡ 64) × (k < 32) × (p < 64) × (q < 64) × ((i : ℕ) → i ≤ gap p q → (line_in t.old i).on < 2 ^ k) }
+    ensures { (length t.new ≡ 64)
+        × ((i : ℕ) → i ≤ gap p q → (line_in t.new i).on ≡ cond (has leaves k && covers a b (line_of p q i)) (2 ^ k) 0 + (line_in t.old i).on) }
 {
     if intersection::sets::member(leaves, k) {
         put_box(t, 1u32 << k, a, b, p, q);
     }
 }
 
-// Empty sets at the frame's lines up to the last.
-fn clear_sets(t: &mut [u32; 192], last: usize)
-    requires { (length t.old ≡ 192) × (last < 64) }
-    ensures { (length t.new ≡ 192) × ((i : ℕ) → i ≤ last → get_or t.new (i * 3) 0 ≡ 0) }
-{
-    let mut i: usize = 0;
-    while i <= last {
-        t[i * 3] = 0;
-        i += 1;
-    }
-}
-
 // For each line of the frame from position p to position q, the leaves whose box has it.
-pub fn leaves_on(
-    first: &[u32; 32],
-    second: &[u32; 32],
-    n: usize,
-    leaves: u32,
-    p: usize,
-    q: usize,
-    t: &mut [u32; 192],
-)
-    requires { (n ≤ 32) × Placed first.now second.now n × (p < 64) × (q < 64) × (length t.old ≡ 192) }
-    ensures { (length t.new ≡ 192)
-        × ((i : ℕ) → i ≤ gap p q → get_or t.new (i * 3) 0 ≡ leaves_on first.now second.now n leaves (line_of p q i)) }
+pub fn leaves_on(places: &Spans, n: usize, leaves: u32, p: usize, q: usize, t: &mut [Line; 64])
+    requires { (n ≤ 32) × Placed places.now.first places.now.second n × (p < 64) × (q < 64) × (length t.old ≡ 64) }
+    ensures { (length t.new ≡ 64)
+        × ((i : ℕ) → i ≤ gap p q → (line_in t.new i).on ≡ leaves_on places.now.first places.now.second n leaves (line_of p q i)) }
 {
-    clear_sets(t, crate::frame::gap(p, q));
-    let mut k: usize = 0;
-    while k < n {
-        let a = first[k] as usize;
-        let b = second[k] as usize;
+    let size = p.abs_diff(q) + 1;
+    for i in 0..size {
+        t[i].on = 0;
+    }
+    for k in 0..n {
+        let a = places.first[k] as usize;
+        let b = places.second[k] as usize;
         put_run(t, leaves, k, a, b, p, q);
-        k += 1;
     }
 }

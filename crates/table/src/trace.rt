@@ -2,9 +2,9 @@
 ghost use Rattle.std.specs.Prelude.{◌≡◌, pred, ◌+◌, ◌-◌, ◌*◌, ◌≤◌, ◌<◌, length};
 ghost use Rattle.table.specs.Frame.{group_of};
 ghost use Rattle.table.specs.Rule.{Fit};
-ghost use Rattle.table.specs.Walk.{taken_by, chosen, begins_with, before_of, arrive_of, up_no, share_no, trace_of, moves_of, walked};
+ghost use Rattle.table.specs.Walk.{taken_by, chosen, begins_with, before_of, arrive_of, up_no, share_no, moves_of, walked};
 
-use crate::fill::Edge;
+use crate::fill::{Edge, edge_by, pair_at, unless_own};
 use crate::frame::{Frame, Line};
 
 // An edge of the walk: its direction, and if it is taken as part of a stretch with its owner.
@@ -13,12 +13,6 @@ pub struct Taken {
     pub ver: bool,
     pub run: bool,
     pub edge: Edge,
-}
-
-fn wide(x: u32) -> u64
-    ensures { result ≡ x }
-{
-    x as u64
 }
 
 // An edge with a cross owner is taken as part of a stretch where its run word is its best word.
@@ -47,11 +41,8 @@ fn begins(e: Edge, along: Edge, across: Edge) -> bool
     ensures { result ≡ begins_with e along across }
 {
     let o = e.own;
-    let f = grid::most(
-        crate::fill::unless_own(along, o),
-        crate::fill::unless_own(across, o),
-    );
-    (f != 0) & (wide(f) + wide(e.len) == wide(e.run))
+    let f = unless_own(along, o).max(unless_own(across, o));
+    (f != 0) & (f as u64 + e.len as u64 == e.run as u64)
 }
 
 // The edge before t, from the edges along and across that end where t begins.
@@ -61,8 +52,8 @@ fn edge_before(t: Taken, along: Edge, across: Edge, cross: u32) -> Taken
     let e = t.edge;
     if t.run {
         if begins(e, along, across) {
-            let i = crate::fill::unless_own(along, e.own);
-            let j = crate::fill::unless_own(across, e.own);
+            let i = unless_own(along, e.own);
+            let j = unless_own(across, e.own);
             return choose(j <= i, t.ver, along, across, cross);
         }
         return Taken {
@@ -79,8 +70,8 @@ fn arrive(work: &[u32], p: usize, col: Line, row: Line, t: Taken, cross: u32) ->
     requires { (p * 4 + 3 < length work.now) × (p < 4096) }
     ensures { result ≡ arrive_of work.now p col row t cross }
 {
-    let h = crate::fill::edge_by(crate::fill::pair_at(work, p, 0), col, row);
-    let v = crate::fill::edge_by(crate::fill::pair_at(work, p, 1), row, col);
+    let h = edge_by(pair_at(work, p, 0), col, row);
+    let v = edge_by(pair_at(work, p, 1), row, col);
     if t.ver {
         return edge_before(t, v, h, cross);
     }
@@ -106,46 +97,55 @@ fn share_no(t: Taken, cross: u32) -> u8
     (intersection::sets::lowest(e.own) % 256) as u8
 }
 
-// The walk that the table holds, and how many steps it has: the centre's steps, from its first point on, 0 along the row and 1 along the column; and for
-// each step the leaf with which it is shared, or 32.
-pub fn trace_of(
-    work: &[u32],
-    cols: &[u32; 192],
-    rows: &[u32; 192],
-    g: Frame,
-    steps: &mut [u8; 128],
-    shares: &mut [u8; 128],
-) -> usize
-    requires { Fit (group_of cols.now rows.now g) work.now × (length steps.old ≡ 128) × (length shares.old ≡ 128) }
-    ensures { (moves_of (trace_of steps.new shares.new result) ≡ walked (group_of cols.now rows.now g) work.now)
-        × (result ≡ pred g.w + pred g.h) × (length steps.new ≡ 128) × (length shares.new ≡ 128) }
-{
-    let mut a = g.w - 1;
-    let mut b = g.h - 1;
-    let count = a + b;
-    let none = Edge {
-        best: 0,
-        run: 0,
-        own: 0,
-        len: 0,
-    };
-    let mut t = Taken {
-        ver: false,
-        run: false,
-        edge: none,
-    };
-    let mut i = count;
-    while 0 < i {
-        let col = crate::frame::line_in(cols, a);
-        let row = crate::frame::line_in(rows, b);
-        let u = arrive(work, b * g.w + a, col, row, t, g.cross);
-        let n = up_no(u.ver, a, b);
-        i -= 1;
-        shares[i] = share_no(u, g.cross);
-        steps[i] = (n % 256) as u8;
-        a -= 1 - n;
-        b -= n;
-        t = u;
+// A walk of count steps: the centre's steps, from its first point on, 0 along the row and 1 along the column; and for each step the leaf with which it is
+// shared, or 32.
+#[derive(Clone, Copy)]
+pub struct Trace {
+    pub steps: [u8; 128],
+    pub shares: [u8; 128],
+    pub count: usize,
+}
+
+impl Trace {
+    // No step.
+    pub fn new() -> Self
+        ensures { (length result.steps ≡ 128) × (length result.shares ≡ 128) }
+    {
+        Trace {
+            steps: [0; 128],
+            shares: [0; 128],
+            count: 0,
+        }
     }
-    count
+
+    // The walk that the table holds.
+    pub fn put_walk(&mut self, work: &[u32], g: &Frame)
+        requires { Fit (group_of g.now) work.now × (length self.old.steps ≡ 128) × (length self.old.shares ≡ 128) }
+        ensures { (moves_of self.new ≡ walked (group_of g.now) work.now)
+            × (self.new.count ≡ pred g.now.w + pred g.now.h) × (length self.new.steps ≡ 128) × (length self.new.shares ≡ 128) }
+    {
+        let mut a = g.w - 1;
+        let mut b = g.h - 1;
+        self.count = a + b;
+        let none = Edge {
+            best: 0,
+            run: 0,
+            own: 0,
+            len: 0,
+        };
+        let mut t = Taken {
+            ver: false,
+            run: false,
+            edge: none,
+        };
+        for i in (0..a + b).rev() {
+            let u = arrive(work, b * g.w + a, g.cols[a], g.rows[b], t, g.cross);
+            let n = up_no(u.ver, a, b);
+            self.shares[i] = share_no(u, g.cross);
+            self.steps[i] = (n % 256) as u8;
+            a -= 1 - n;
+            b -= n;
+            t = u;
+        }
+    }
 }

@@ -16,12 +16,7 @@ ghost use Rattle.table.specs.Rule.{Fit};
 use console::{Output, Screen};
 use std::io;
 use table::frame::{Frame, Line};
-
-fn wide(b: u8) -> u32
-    ensures { result < 256 }
-{
-    b as u32
-}
+use table::trace::Trace;
 
 // The line at a place of the record.
 fn line_at(bytes: &[u8; 1546], at: usize) -> Line
@@ -36,13 +31,12 @@ fn line_at(bytes: &[u8; 1546], at: usize) -> Line
 }
 
 // The 64 lines from a place of the record on.
-fn lines_at(bytes: &[u8; 1546], at: usize, lines: &mut [u32; 192])
-    requires { (at + 768 ≤ 1546) × (length lines.old ≡ 192) }
-    ensures { (length lines.new ≡ 192) × ((i : ℕ) → i < 64 → (line_in lines.new i).len ≤ 2000000) }
+fn lines_at(bytes: &[u8; 1546], at: usize, lines: &mut [Line; 64])
+    requires { (at + 768 ≤ 1546) × (length lines.old ≡ 64) }
+    ensures { (length lines.new ≡ 64) × ((i : ℕ) → i < 64 → (line_in lines.new i).len ≤ 2000000) }
 {
     for i in 0..64 {
-        let line = line_at(bytes, at + 12 * i);
-        table::frame::put_line(lines, i, line);
+        lines[i] = line_at(bytes, at + 12 * i);
     }
 }
 
@@ -56,35 +50,35 @@ fn count_at(bytes: &[u8; 1546], at: usize) -> usize
 
 // The frame that the record holds.
 fn frame_of(bytes: &[u8; 1546]) -> Frame
-    ensures { ((1 ≤ result.w) × (result.w ≤ 64)) × ((1 ≤ result.h) × (result.h ≤ 64)) }
+    ensures { (words : List ℕ) → 16384 ≤ length words → Fit (group_of result) words }
 {
-    Frame {
-        cross: job::le32(bytes, 6),
-        w: count_at(bytes, 4),
-        h: count_at(bytes, 5),
-    }
+    let mut g = Frame::new();
+    lines_at(bytes, 10, &mut g.cols);
+    lines_at(bytes, 778, &mut g.rows);
+    g.cross = job::le32(bytes, 6);
+    g.w = count_at(bytes, 4);
+    g.h = count_at(bytes, 5);
+    g
 }
 
 // Fills and traces so many times. The sum has each walk's first step, which is found last.
-fn go_round(work: &mut [u32], cols: &[u32; 192], rows: &[u32; 192], g: Frame, rounds: u32) -> u32
-    requires { (16384 ≤ length work.old) × ((words : List ℕ) → 16384 ≤ length words → Fit (group_of cols.now rows.now g) words) }
+fn go_round(work: &mut [u32], g: &Frame, rounds: u32) -> u32
+    requires { (16384 ≤ length work.old) × ((words : List ℕ) → 16384 ≤ length words → Fit (group_of g.now) words) }
     ensures { length work.new ≡ length work.old }
 {
-    let mut steps = [0u8; 128];
-    let mut shares = [0u8; 128];
+    let mut trace = Trace::new();
     let mut sum: u32 = 0;
-    for i in 0..rounds {
-        table::fill::fill(work, cols, rows, g);
-        table::trace::trace_of(&*work, cols, rows, g, &mut steps, &mut shares);
-        sum = (sum + wide(shares[0]) + 64 * wide(steps[0])) % 65536;
+    for _ in 0..rounds {
+        table::fill::fill(work, g);
+        trace.put_walk(&*work, g);
+        sum = (sum + u32::from(trace.shares[0]) + 64 * u32::from(trace.steps[0])) % 65536;
     }
     sum
 }
 
 fn print(screen: &mut Screen, figure: u32, sum: u32) {
     screen.put_decimal(figure as u64);
-    screen.put(b" ");
-    screen.put_decimal(sum as u64);
+    screen.put_number(sum as u64);
     screen.put(b"\n");
 }
 
@@ -93,13 +87,9 @@ fn main(rt: HostRuntime) -> io::Result<()> {
     console::read_full(&mut rt.stdin(), &mut bytes)?;
     let mut screen = Output::new(rt.stdout());
     let rounds = job::le32(&bytes, 0) % 1048576;
-    let mut cols = [0u32; 192];
-    let mut rows = [0u32; 192];
-    lines_at(&bytes, 10, &mut cols);
-    lines_at(&bytes, 778, &mut rows);
     let g = frame_of(&bytes);
     let mut work = [0u32; 16384];
-    let sum = go_round(&mut work, &cols, &rows, g, rounds);
-    print(&mut screen, table::fill::figure_of(&work, g), sum);
+    let sum = go_round(&mut work, &g, rounds);
+    print(&mut screen, table::fill::figure_of(&work, &g), sum);
     screen.end()
 }

@@ -1,13 +1,11 @@
 -- A text in a buffer, cut where the buffer is full: one text behind another is their concatenation, cut at the same place.
 use mathlib.Core.Path.{◌≡◌, refl, sym, ap, ◌∙◌}
-use mathlib.Core.List.{List, [], ◌∷◌, ◌++◌, append-nil}
-use Prim.Native.Nat.{ℕ, ◌+◌, ◌-◌, ◌≤◌, ◌<◌}
-use native.Mathlib.Nat.{zero-add}
-use native.Mathlib.Numerals.{add-one}
+use mathlib.Core.List.{List, [], ◌++◌, append-nil}
+use Prim.Native.Nat.{ℕ, ◌+◌, ◌-◌, ◌≤◌, min}
 use native.Mathlib.Decide.{dec_le}
 use native.Mathlib.Omega.{arith}
-use lib.ListN.{length, take, drop, set, get_or, length-append, length-take, length-drop, length-set}
-use lib.Seq.{take_all, take-append-le, take-append-add, length-take-le, paste, paste-zero, paste-suc}
+use lib.ListN.{length, take, drop, length-append, length-take, length-drop}
+use lib.Seq.{take_all, take-append-le, take-append-add, length-take-le}
 use borrow.Rule.Slice.PartMut.{mid_of, put_mid}
 use Rattle.fields.specs.Bytes.{over, Wrote}
 use Rattle.fields.proofs.Over.{wrote_next}
@@ -64,58 +62,15 @@ listed_next a b xs ys zs n m p q =
 pub listed_whole : (t xs ys : List ℕ) (n : ℕ) → Listed t xs ys n → length t ≤ length xs → Wrote t xs ys n
 listed_whole t xs ys n p h = rw (take_all (length xs) t h) at p.wrote
 
--- ---- one byte, and a copy
+-- ---- a copy
 
--- no room
-pub listed_full : (t xs : List ℕ) → length xs ≡ 0 → Listed t xs xs 0
+-- as much of ws at the front as there is, or as there is room for
+pub listed_copy : (ws xs : List ℕ) (n : ℕ) → n ≡ min (length ws) (length xs) → Listed ws xs (take n ws ++ drop n xs) n
 unfolding over
-listed_full t xs h = listed t xs xs 0 (rw h (record { bytes = refl; size = refl }))
-
--- one byte at the front
-pub listed_byte : (b : ℕ) (xs : List ℕ) → 0 < length xs → Listed (b ∷ []) xs (set xs 0 b) 1
-unfolding over
-listed_byte b [] h = absurd (omega arith)
-listed_byte b (x ∷ xs) h =
-    listed (b ∷ []) (x ∷ xs) (b ∷ xs) 1 (rw (take_all (length (x ∷ xs)) (b ∷ []) (omega arith)) (record { bytes = refl; size = refl }))
-
--- the first `at` bytes of ws are copied to the front of xs
-pub record Copied (ws xs ys : List ℕ) (at : ℕ) : Type 0 where
-  pub some : at ≤ length ws
-  pub room : at ≤ length xs
-  pub same : length ys ≡ length xs
-  pub bytes : ys ≡ paste xs 0 ws at
-
--- at first none is copied
-pub copied_none : (ws xs : List ℕ) → Copied ws xs xs 0
-copied_none ws xs = record { some = omega arith; room = omega arith; same = refl; bytes = paste-zero xs 0 ws }
-
-module _ (ws xs ys : List ℕ) (at : ℕ) (i : Copied ws xs ys at) where
-  -- one byte more
-  pub copied_next : at < length ws → at < length ys → Copied ws xs (set ys at (get_or ws at 0)) (at + 1)
-  copied_next h k =
-      record {
-        some = omega arith;
-        room = omega (arith, i.same);
-        same = length-set ys at (get_or ws at 0) ∙ i.same;
-        bytes =
-            ap (λ l. set l at (get_or ws at 0)) i.bytes
-            ∙ ap (λ j. set (paste xs 0 ws at) j (get_or ws at 0)) (sym (zero-add at))
-            ∙ paste-suc xs 0 ws at 0 (omega (arith, i.same)) h
-            ∙ ap (paste xs 0 ws) (sym (add-one at));
-      }
-
-  -- as much is copied as there is, or as there is room for
-  copied_listed : take at ws ≡ take (length xs) ws → Listed ws xs ys at
-  unfolding over
-  copied_listed e =
-      let n = length-take-le at ws i.some in
-      listed ws xs ys at
-      (rw (← e) (record { bytes = i.bytes ∙ rw (n, zero-add at); size = sym n }))
-
-  -- all bytes are copied
-  pub copied_all : length ws ≤ at → Listed ws xs ys at
-  copied_all h = copied_listed (take_all at ws h ∙ sym (take_all (length xs) ws (omega (arith, i.room))))
-
-  -- the buffer is full
-  pub copied_full : length ys ≤ at → Listed ws xs ys at
-  copied_full h = let e : at ≡ length xs = omega (arith, i.room, i.same) in copied_listed (ap (λ j. take j ws) e)
+listed_copy ws xs n h =
+    let k : length (take n ws) ≡ n = length-take-le n ws (omega arith) in
+    listed ws xs (take n ws ++ drop n xs) n (rw (← same (dec_le (length ws) (length xs))) (record { bytes = rw k refl; size = sym k }))
+  where
+    same : Dec (length ws ≤ length xs) → take n ws ≡ take (length xs) ws
+    same (yes l) = take_all n ws (omega arith) ∙ sym (take_all (length xs) ws l)
+    same (no l) = let e : n ≡ length xs = omega arith in ap (λ (j : ℕ). take j ws) e

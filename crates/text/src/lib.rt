@@ -21,28 +21,18 @@ pub struct Step {
     pub written: usize,
 }
 
-fn write_byte(text: &mut [u8], b: u8) -> usize
-    ensures { Listed (b ∷ []) text.old text.new result }
-{
-    if text.len() == 0 {
-        return 0;
-    }
-    text[0] = b;
-    1
-}
-
 fn write_words(text: &mut [u8], words: &[u8]) -> usize
     ensures { Listed words.now text.old text.new result }
 {
-    let mut at: usize = 0;
-    while at < words.len() {
-        if at >= text.len() {
-            return at;
-        }
-        text[at] = words[at];
-        at += 1;
-    }
-    at
+    let n = words.len().min(text.len());
+    text[..n].copy_from_slice(&words[..n]);
+    n
+}
+
+fn write_byte(text: &mut [u8], b: u8) -> usize
+    ensures { Listed (b ∷ []) text.old text.new result }
+{
+    write_words(text, &[b])
 }
 
 // A number in decimal: its tenth, then its last digit.
@@ -50,10 +40,10 @@ fn write_number(text: &mut [u8], n: u64) -> usize
     ensures { Listed (decimal n) text.old text.new result }
 {
     if n < 10 {
-        return write_byte(text, 48 + n as u8);
+        return write_byte(text, b'0' + n as u8);
     }
     let at = write_number(text, n / 10);
-    at + write_byte(&mut text[at..], 48 + (n % 10) as u8)
+    at + write_byte(&mut text[at..], b'0' + (n % 10) as u8)
 }
 
 // A number behind its name.
@@ -169,24 +159,12 @@ pub fn list_refusal(refusal: Refusal, text: &mut [u8]) -> usize
 pub fn list_chosen(second: bool, trench: u32, other: u32, text: &mut [u8]) -> usize
     ensures { Listed (chosen_text second trench other) text.old text.new result }
 {
-    let t = trench as u64;
-    let o = other as u64;
-    if second {
-        return write_line(
-            text,
-            b"stake from the second book: trench ",
-            t,
-            b", the first has ",
-            o,
-        );
-    }
-    write_line(
-        text,
-        b"stake from the first book: trench ",
-        t,
-        b", the second has ",
-        o,
-    )
+    let (chosen, rest): (&[u8], &[u8]) = if second {
+        (b"stake from the second book: trench ", b", the first has ")
+    } else {
+        (b"stake from the first book: trench ", b", the second has ")
+    };
+    write_line(text, chosen, trench as u64, rest, other as u64)
 }
 
 // How many bytes a record takes; what ends a listing takes all that are left.
@@ -194,17 +172,10 @@ pub fn record_size(found: Record, left: usize) -> usize
     ensures { Sized found left result }
 {
     match found {
-        Record::Head(head) => 19,
-        Record::Route {
-            grouped,
-            number,
-            meets,
-            corners,
-            centre,
-        } => records::route_size(grouped),
-        Record::Corner { x, y } => 9,
-        Record::End(_) => left,
-        Record::Other => left,
+        Record::Head(_) => 19,
+        Record::Route { grouped, .. } => records::route_size(grouped),
+        Record::Corner { .. } => 9,
+        Record::End(_) | Record::Other => left,
     }
 }
 

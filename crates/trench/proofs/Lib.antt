@@ -1,4 +1,3 @@
 -- The laws of the crate.
-pub mod Filled
 pub mod Codes
 pub mod Jobs

@@ -1,13 +1,13 @@
 -- What C is told of a forecast (document 02, C-20): the words or the bytes that a job needs, or minus the refusal number.
-use Rattle.std.specs.Prelude.{ℤ, pos, neg_ℤ}
+use Rattle.std.specs.Prelude.{ℤ, pos, neg_ℤ, Result, Ok, Err}
 use Rattle.refusal.specs.Refusal.{refusal_number}
-use Rattle.planner.specs.declared.Foretold.{Foretold}
-use Rattle.planner.specs.declared.Foretold.TheVariants.{Needs, Refused}
+use Rattle.refusal.specs.declared.Refusal.{Refusal}
+use Rattle.planner.specs.declared.Needs.{Needs}
 
-abbrev pub words_code : Foretold → ℤ
-words_code (Needs words bytes) = pos words
-words_code (Refused x) = neg_ℤ (pos (refusal_number x))
+abbrev pub words_code : Result Needs Refusal → ℤ
+words_code (Ok needs) = pos needs.words
+words_code (Err x) = neg_ℤ (pos (refusal_number x))
 
-abbrev pub bytes_code : Foretold → ℤ
-bytes_code (Needs words bytes) = pos bytes
-bytes_code (Refused x) = neg_ℤ (pos (refusal_number x))
+abbrev pub bytes_code : Result Needs Refusal → ℤ
+bytes_code (Ok needs) = pos needs.bytes
+bytes_code (Err x) = neg_ℤ (pos (refusal_number x))

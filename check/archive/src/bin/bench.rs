@@ -83,7 +83,7 @@ The ratio that is wanted, for stars, is `proved / tuned`: at most 1.0 up to 8 ru
 
 const TABLE_NOTE: &str = "\
 Filling the table and tracing the walk alone, for the first 8 of the jobs of 32 runs (64 x 64 lines), in microseconds a round.
-`proved` is the program crates/table_rounds, which calls the planner's `fill` and `trace_of` and is timed from outside, as a
+`proved` is the program crates/table_rounds, which calls the planner's `fill` and `Trace::put_walk` and is timed from outside, as a
 process; `C` and `tuned` are the same work by bench/table.c, called in the benchmark. A round is what 2,001 rounds take more than 1, by the
 quickest of 40 runs of each, divided by 2,000, in processor time. They take turns, and neither clears the table between rounds.";
 

@@ -5,8 +5,8 @@ use lib.ListN.{length}
 use Rattle.book.proofs.Progress.{SoFar}
 use Rattle.book.proofs.read.Given as goal
 
-abbrev pub invariant-loop-places : goal.invariant-loop-places
-invariant-loop-places l = SoFar l.book l.places l.at l.w
+abbrev pub invariant-loop-run : goal.invariant-loop-run
+invariant-loop-run l = SoFar l.book l.places l.at l.walk
 
-abbrev pub decreases-loop-places : goal.decreases-loop-places
-decreases-loop-places l = length l.book - l.at
+abbrev pub decreases-loop-run : goal.decreases-loop-run
+decreases-loop-run l = length l.book - l.at

@@ -1,13 +1,9 @@
 -- The invariant: the array holds the figures of the runs passed.
 use mathlib.Core.Path.{◌≡◌}
-use Prim.Native.Nat.{◌≤◌, ◌-◌}
 use Rattle.network.specs.Graph.{below, degree}
 use Rattle.grid.specs.Tables.{table, padded}
 use Rattle.intersection.specs.Centres.{joined_in}
 use Rattle.figures.proofs.tell_meets.Given as goal
 
 abbrev pub invariant-loop-i : goal.invariant-loop-i
-invariant-loop-i l = (l.i ≤ l.n) × (l.told ≡ padded 32 (table (λ k. degree (joined_in l.neighbours) (below 32) k) l.i))
-
-abbrev pub decreases-loop-i : goal.decreases-loop-i
-decreases-loop-i l = l.n - l.i
+invariant-loop-i l = l.told ≡ padded 32 (table (λ k. degree (joined_in l.neighbours) (below 32) k) l.i)

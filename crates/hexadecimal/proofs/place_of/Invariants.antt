@@ -1,10 +1,6 @@
 -- Before each round, the byte does not stand before i.
-use Rattle.std.proofs.Common.{length, ◌-◌}
 use Rattle.hexadecimal.proofs.Lines.{Sought}
 use Rattle.hexadecimal.proofs.place_of.Given as goal
 
 abbrev pub invariant-loop-i : goal.invariant-loop-i
 invariant-loop-i l = Sought l.c l.text l.fn.from l.i
-
-abbrev pub decreases-loop-i : goal.decreases-loop-i
-decreases-loop-i l = length l.text - l.i

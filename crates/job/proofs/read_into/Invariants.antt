@@ -5,8 +5,7 @@ use Rattle.job.proofs.Progress.{SoFar}
 use Rattle.job.proofs.read_into.Given as goal
 
 abbrev pub invariant-loop-run : goal.invariant-loop-run
-invariant-loop-run l =
-    SoFar l.job l.number (record { number = l.number; count = l.n; numbers = l.numbers; x1 = l.x1; y1 = l.y1; x2 = l.x2; y2 = l.y2 }) l.at l.n l.last
+invariant-loop-run l = SoFar l.bytes l.job l.at l.last
 
 abbrev pub decreases-loop-run : goal.decreases-loop-run
-decreases-loop-run l = 33 - l.n
+decreases-loop-run l = 33 - l.job.count

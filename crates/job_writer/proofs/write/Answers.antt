@@ -1,22 +1,21 @@
 -- `job_writer::write` meets its contract, by what the check answers.
 use mathlib.Core.Path.{sym, ap, ◌∙◌}
-use Rattle.job_writer.specs.declared.Outcome.TheVariants.{Written}
+use Rattle.std.specs.Prelude.{Ok}
+use Rattle.std.proofs.lemmas.Result.{err_from_is_err_and}
 use Rattle.job_writer.specs.Call.{book_of, call_by, call_of}
 use Rattle.job_writer.proofs.write.Goals as goal
 
-pub write_book-requires : goal.write_book-requires
-write_book-requires c = sym c.check-answer.ensures ∙ c.in-Accepted.is
-
-pub returns-in-Accepted : goal.returns-in-Accepted
+pub returns-in_err-check : goal.returns-in_err-check
 unfolding call_of
-returns-in-Accepted c =
+returns-in_err-check c =
+    let a = c.args in
+    let p = err_from_is_err_and c.from_residual.result c.from_residual.ensures.1 in
+    rw (p.1, p.2) (ap (λ b. call_by b (book_of a.number a.runs.now) a.out.now) (sym c.check.ensures ∙ c.in_err-check.was))
+
+pub returns : goal.returns
+unfolding call_of
+returns c =
     let w = c.write_book in
     let a = c.args in
-    ap (λ b. call_by b (book_of a.number a.runs.now) a.out.now) (sym c.check-answer.ensures ∙ c.in-Accepted.is)
-    ∙ (λ i. record { says = Written (sym w.ensures.size i); out = sym w.ensures.bytes i })
-
-pub returns-in-Refused : goal.returns-in-Refused
-unfolding call_of
-returns-in-Refused c =
-    let a = c.args in
-    ap (λ b. call_by b (book_of a.number a.runs.now) a.out.now) (sym c.check-answer.ensures ∙ c.in-Refused.is)
+    ap (λ b. call_by b (book_of a.number a.runs.now) a.out.now) (sym c.check.ensures ∙ c.in_ok-check.was)
+    ∙ (λ i. record { says = Ok (sym w.ensures.size i); out = sym w.ensures.bytes i })

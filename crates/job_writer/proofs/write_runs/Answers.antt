@@ -11,8 +11,8 @@ loop-i-init c =
 pub listed_at-requires : goal.listed_at-requires
 listed_at-requires c = omega arith
 
-pub run_of-run-requires : goal.run_of-run-requires
-run_of-run-requires c = rw c.listed_at.ensures (next_held _ _ _ _ _ _ c.loop-i.invariant c.loop-i-test.true)
+pub run_of-requires : goal.run_of-requires
+run_of-requires c = rw c.listed_at.ensures (next_held _ _ _ _ _ _ c.loop-i.invariant c.loop-i-test.true)
 
 pub slice_bounds-write_run-count : goal.slice_bounds-write_run-count
 slice_bounds-write_run-count c = omega (arith, next_room _ _ _ _ _ _ c.loop-i.invariant c.loop-i-test.true)
@@ -26,16 +26,10 @@ write_run-at-requires c = omega (arith, next_room _ _ _ _ _ _ c.loop-i.invariant
 pub overflow_add-at : goal.overflow_add-at
 overflow_add-at c = omega (arith, c.write_run-at.ensures.size)
 
-pub overflow_add-i : goal.overflow_add-i
-overflow_add-i c = omega arith
-
-pub loop-i-smaller : goal.loop-i-smaller
-loop-i-smaller c = omega arith
-
 pub loop-i-preserved : goal.loop-i-preserved
 loop-i-preserved c =
     let w = c.write_run-at in
-    let run = c.run_of-run.ensures ∙ ap run_of c.listed_at.ensures in
+    let run = c.run_of.ensures ∙ ap run_of c.listed_at.ensures in
     writing_next _ _ _ _ _ _ c.loop-i.invariant c.loop-i-test.true w.new.out w.result (rw run at w.ensures)
 
 pub shape_of-out : goal.shape_of-out

@@ -2,42 +2,36 @@
 use mathlib.Core.Path.{◌≡◌, sym, ap, ◌∙◌}
 use mathlib.Core.List.{List}
 use Prim.Native.Nat.{ℕ}
+use Rattle.std.specs.Prelude.{Ok, Err}
 use Rattle.job.specs.Written.{Bytes}
 use Rattle.plan.specs.Plan.{Entry}
 use Rattle.book.specs.declared.Reading.{Reading}
-use Rattle.book.specs.declared.Answer.TheVariants.{Accepted}
 use Rattle.book.specs.Parse.{parse_plan}
 use Rattle.book.specs.Reading.{places_of, reading_of}
-use Rattle.book.proofs.Accepted.{reading_accepted, reading_refused, reading_places}
+use Rattle.book.proofs.Accepted.{reading_accepted, reading_refused}
 use Rattle.planner.specs.Held.{runs_in}
-use Rattle.judge.specs.declared.Judgement.TheVariants.{Refused}
 use Rattle.judge.specs.Judged.{judgement_of}
 use Rattle.judge.specs.Steps.{ReadAs}
 use Rattle.judge.proofs.judge.Goals as goal
 
 -- what was read
-read_as : (book : List ℕ) → Bytes book → (r : Reading) → r ≡ reading_of (parse_plan book) → r.answer ≡ Accepted
-    → (es : List Entry) × ReadAs book r.places r.head es
-read_as book b r e a =
-    let (es, p) = reading_accepted (parse_plan book) r e a in
-    (es, record { parsed = p; placed = ap (λ (q : Reading). q.places) e ∙ reading_places (parse_plan book) ∙ ap places_of p; bytes = b })
+read_as : (book : List ℕ) → Bytes book → (r : Reading) → Ok r ≡ reading_of (parse_plan book) → (es : List Entry) × ReadAs book r es
+read_as book b r e =
+    let (es, p, q) = reading_accepted (parse_plan book) r e in
+    (es, record { parsed = p; placed = q ∙ ap places_of p; bytes = b })
 
 pub judge_read-requires : goal.judge_read-requires
-judge_read-requires c =
-    let r = c.read-reading in
-    (c.requires, read_as _ (λ i. (c.shared_slice_known-1.given i).fits) r.result r.ensures c.in-Accepted.is)
+judge_read-requires c = (c.requires, read_as _ (λ i. (c.type_inv.book i).fits) c.in-Ok.reading c.in-Ok.ensures)
 
-pub returns-in-Accepted : goal.returns-in-Accepted
-returns-in-Accepted c =
-    let a = c.args in
-    let r = c.read-reading in
-    let (es, R) = read_as _ (λ i. (c.shared_slice_known-1.given i).fits) r.result r.ensures c.in-Accepted.is in
-    c.judge_read.ensures es R ∙ ap (judgement_of a.known.job.number (runs_in a.known.job) a.place) (sym R.parsed)
+pub returns-in-Ok : goal.returns-in-Ok
+returns-in-Ok c =
+    let k = c.args.known.now.job in
+    let (es, R) = read_as _ (λ i. (c.type_inv.book i).fits) c.in-Ok.reading c.in-Ok.ensures in
+    c.judge_read.ensures es R ∙ ap (judgement_of k.number (runs_in k) c.args.place) (sym R.parsed)
 
-pub returns-in-Refused : goal.returns-in-Refused
+pub returns-in-Err : goal.returns-in-Err
 unfolding judgement_of
-returns-in-Refused c =
-    let a = c.args in
-    let r = c.read-reading in
-    ap Refused c.of_book.ensures
-    ∙ sym (ap (judgement_of a.known.job.number (runs_in a.known.job) a.place) (reading_refused (parse_plan a.book.now) r.result _ r.ensures c.in-Refused.is))
+returns-in-Err c =
+    let k = c.args.known.now.job in
+    ap Err c.of_book.ensures
+    ∙ sym (ap (judgement_of k.number (runs_in k) c.args.place) (reading_refused (parse_plan c.args.book.now) _ c.in-Err.ensures))

@@ -1,10 +1,10 @@
 -- The invariant: the groups of the centres below i are laid, and nothing behind the words of the grid's table has changed.
 use mathlib.Core.Path.{◌≡◌}
 use mathlib.Core.List.{List}
-use Prim.Native.Nat.{◌*◌, ◌-◌, ◌≤◌}
+use Prim.Native.Nat.{◌*◌, ◌≤◌}
 use lib.ListN.{length}
 use Rattle.network.specs.Plane.{Run}
-use Rattle.table.specs.Side.{side_of}
+use Rattle.table.specs.Side.{side_by}
 use Rattle.table.specs.Rule.{Beyond}
 use Rattle.laying.specs.Lease.{table_words, LeaseSurveyed, block_of}
 use Rattle.laying.proofs.Loop.{Progress}
@@ -12,13 +12,9 @@ use Rattle.laying.proofs.lay.Given as goal
 
 abbrev pub invariant-loop-i : goal.invariant-loop-i
 invariant-loop-i l =
-    let xs = side_of l.xfirst l.xsecond l.xlines in
-    let ys = side_of l.yfirst l.ysecond l.ylines in
-    (l.i ≤ l.n) × (l.saved ≤ l.i * 4294967296) × (length l.work ≡ length l.initial.work) × (length l.routes ≡ length l.initial.routes)
+    let xs = side_by l.x in
+    let ys = side_by l.y in
+    (l.saved ≤ l.i * 4294967296)
     × ((runs : List Run) → LeaseSurveyed runs xs ys l.n l.centres l.neighbours
     → Progress runs xs ys l.centres l.i l.saved (block_of l.routes l.stride) × Beyond l.initial.work l.work (table_words runs))
-    × (length l.cols ≡ 192) × (length l.rows ≡ 192) × (length l.steps ≡ 128) × (length l.shares ≡ 128)
-
-abbrev pub decreases-loop-i : goal.decreases-loop-i
-decreases-loop-i l =
-    l.n - l.i
+    × (length l.frame.cols ≡ 64) × (length l.frame.rows ≡ 64) × (length l.trace.steps ≡ 128) × (length l.trace.shares ≡ 128)

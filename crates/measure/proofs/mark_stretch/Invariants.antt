@@ -1,10 +1,7 @@
 -- `measure::mark_stretch` meets its contract. The loop's invariant: the places before k are marked.
-use Prim.Native.Nat.{◌-◌, ◌≤◌, max}
+use Prim.Native.Nat.{◌≤◌, max}
 use Rattle.measure.specs.Marks.{direction_of, Stretched}
 use Rattle.measure.proofs.mark_stretch.Given as goal
 
 abbrev pub invariant-loop-k : goal.invariant-loop-k
-invariant-loop-k l = (l.low ≤ l.k) × (l.k ≤ max l.low l.high) × Stretched (direction_of l.upright) l.line l.low l.k l.initial.marks l.marks
-
-abbrev pub decreases-loop-k : goal.decreases-loop-k
-decreases-loop-k l = l.high - l.k
+invariant-loop-k l = (l.k ≤ max l.low l.high) × Stretched (direction_of l.upright) l.line l.low l.k l.initial.marks l.marks

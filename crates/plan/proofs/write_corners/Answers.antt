@@ -1,6 +1,6 @@
 use native.Mathlib.Omega.{arith}
 use Rattle.route.specs.Route.{route_by}
-use Rattle.route.proofs.Walk.{can_step, at_step, column_in, row_in}
+use Rattle.route.proofs.Walk.{can_step, column_in, row_in}
 use Rattle.plan.proofs.Corners.{writing_all, corner_fits, corner_few, writing_straight, writing_turned, writing_end}
 use Rattle.plan.proofs.write_corners.Goals as goal
 use Rattle.plan.proofs.write_corners.Goals.{else-s, then-s}
@@ -16,30 +16,10 @@ step-s-requires c =
     let o = c.loop-w.invariant.on in
     (omega (arith, o.grid.held), can_step _ _ o c.loop-w-test.true)
 
-pub slice_bounds-write_corner-count : goal.slice_bounds-write_corner-count
-slice_bounds-write_corner-count c =
-    let l = c.loop-w in
-    omega (arith, corner_fits _ _ _ _ _ _ _ l.invariant)
-
-pub slice_bounds-write_corner-start : goal.slice_bounds-write_corner-start
-slice_bounds-write_corner-start c =
-    let l = c.loop-w in
-    omega (arith, corner_fits _ _ _ _ _ _ _ l.invariant)
-
 pub write_corner-at-requires : goal.write_corner-at-requires
 write_corner-at-requires c =
     let l = c.loop-w in
     (column_in _ _ l.invariant.on, row_in _ _ l.invariant.on, omega (arith, corner_fits _ _ _ _ _ _ _ l.invariant))
-
-pub overflow_add-at : goal.overflow_add-at
-overflow_add-at c =
-    let l = c.loop-w in
-    omega (arith, corner_few _ _ _ _ _ _ _ l.invariant)
-
-pub loop-w-smaller : goal.loop-w-smaller
-loop-w-smaller c =
-    let l = c.loop-w in
-    omega (arith, at_step _ _ _ l.invariant.on c.loop-w-test.true c.step-s.ensures)
 
 pub loop-w-preserved : goal.loop-w-preserved
 loop-w-preserved c =
@@ -47,28 +27,10 @@ loop-w-preserved c =
     let s = c.step-s in
     elim c.if-s.branch [ then-s w ↦ rw (w.out-is, w.at-is) (writing_turned _ _ _ _ _ _ _ l.invariant s.result c.loop-w-test.true s.ensures w.if-s.true w.write_corner-at.new.out w.write_corner-at.result w.write_corner-at.ensures) | else-s w ↦ rw (w.out-is, w.at-is) (writing_straight _ _ _ _ _ _ _ l.invariant s.result c.loop-w-test.true s.ensures w.if-s.false) ]
 
-pub slice_bounds-write_corner-count-2 : goal.slice_bounds-write_corner-count-2
-slice_bounds-write_corner-count-2 c =
-    let l = c.loop-w in
-    omega (arith, corner_fits _ _ _ _ _ _ _ l.invariant)
-
-pub slice_bounds-write_corner-start-2 : goal.slice_bounds-write_corner-start-2
-slice_bounds-write_corner-start-2 c =
-    let l = c.loop-w in
-    omega (arith, corner_fits _ _ _ _ _ _ _ l.invariant)
-
 pub write_corner-requires : goal.write_corner-requires
 write_corner-requires c =
     let l = c.loop-w in
     (column_in _ _ l.invariant.on, row_in _ _ l.invariant.on, omega (arith, corner_fits _ _ _ _ _ _ _ l.invariant))
-
-pub overflow_add-result : goal.overflow_add-result
-overflow_add-result c =
-    let l = c.loop-w in
-    omega (arith, corner_few _ _ _ _ _ _ _ l.invariant)
-
-pub shape_of-out : goal.shape_of-out
-shape_of-out c = omega arith
 
 pub returns : goal.returns
 returns c =

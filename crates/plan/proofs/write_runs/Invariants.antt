@@ -1,13 +1,9 @@
--- `plan::write_runs` meets its contract. The loop's invariant is `Running`: the runs from index i on, behind what is written, complete all.
-use Prim.Native.Nat.{◌-◌}
-use Rattle.route.specs.Stored.{tracks_of, routes_in}
+-- `plan::write_runs` meets its contract. The loop's invariant is `Running`: the runs from index k on, behind what is written, complete all.
+use Rattle.route.specs.Stored.{routes_of}
 use Rattle.plan.proofs.Runs.{Running}
 use Rattle.plan.proofs.write_runs.Given as goal
 
-abbrev pub invariant-loop-i : goal.invariant-loop-i
-invariant-loop-i l =
-    Running l.columns l.rows l.numbers l.meets l.centres (routes_in l.routes l.stride (tracks_of l.x1 l.y1 l.x2 l.y2) l.count) l.initial.out l.out l.at l.all l.i
-
-abbrev pub decreases-loop-i : goal.decreases-loop-i
-decreases-loop-i l =
-    l.count - l.i
+abbrev pub invariant-loop-k : goal.invariant-loop-k
+invariant-loop-k l =
+    let f = l.figures in
+    Running l.columns l.rows f.numbers.now f.meets.now f.centres.now (routes_of l.routes) l.initial.out l.out l.at l.all l.k

@@ -9,7 +9,7 @@ use Rattle.planner.proofs.plan_in.Goals as goal
 pub answer_code-requires : goal.answer_code-requires
 answer_code-requires c =
     let a = c.args in
-    plan_short a.job.now (length a.work.now) a.out.now _ _ (λ i. (c.shared_slice_known-1.given i).fits) c.plan.ensures.0
+    plan_short a.job.now (length a.work.now) a.out.now _ _ (λ i. (c.type_inv.job i).fits) c.plan.ensures.0
 
 pub returns : goal.returns
 returns c =

@@ -2,64 +2,46 @@
 use mathlib.Core.Path.{refl, sym, ap, ◌∙◌}
 use lib.ListN.{length}
 use Rattle.intersection.specs.Centres.{meets_in, neighbour_sets}
-use Rattle.planner.specs.Held.{job_in}
 use Rattle.planner.proofs.Held.{held_few, plane_held}
-use Rattle.planner.proofs.Stages.{table_full, surveyed, placed_within, words_is, short_work, short_plan, lent_words, lent_bytes, goes_on}
+use Rattle.planner.proofs.Stages.{blank_sides, placed_within, short_work, short_plan, lent_words, lent_bytes, goes_on}
 use Rattle.planner.proofs.plan_job.Goals as goal
 
-pub find_neighbours-requires : goal.find_neighbours-requires
-find_neighbours-requires c = (held_few _ c.requires, refl, refl, refl, refl, refl)
-
-pub lay_out-size-requires : goal.lay_out-size-requires
-lay_out-size-requires c =
+pub lay_out-requires : goal.lay_out-requires
+lay_out-requires c =
     let n = held_few _ c.requires in
     let e = c.find_neighbours.ensures in
-    (n, refl, refl, table_full _ _ n _ e.1, table_full _ _ n _ e.2, table_full _ _ n _ e.3, table_full _ _ n _ e.4)
+    (n, blank_sides _ _ _ _ n c.new-x.ensures e.1, blank_sides _ _ _ _ n c.new-y.ensures e.2)
 
-pub words_for-words-requires : goal.words_for-words-requires
-words_for-words-requires c = let p = c.lay_out-size.ensures in (p.0.few, p.1.few)
-
-pub returns-then-work-words : goal.returns-then-work-words
-returns-then-work-words c =
+pub returns-then-work-words_for : goal.returns-then-work-words_for
+returns-then-work-words_for c =
     let a = c.args in
-    let j = job_in a.number a.n a.numbers.now a.x1.now a.y1.now a.x2.now a.y2.now in
-    let p = c.lay_out-size in
-    (short_work j p.result _ _ _ _ _ _ (surveyed j p.result _ _ _ _ _ _ p.ensures.0 p.ensures.1) a.out.now (length a.work.now) _ c.words_for-words.ensures c.if-work-words.true, refl)
+    (short_work a.job.now _ _ c.lay_out.ensures a.out.now (length a.work.now) _ c.words_for.ensures c.if-work-words_for.true, refl)
 
 pub bytes_for-requires : goal.bytes_for-requires
-bytes_for-requires c =
-    let p = c.lay_out-size.ensures in
-    (held_few _ c.requires, placed_within _ _ _ _ _ _ _ p.0, placed_within _ _ _ _ _ _ _ p.1)
+bytes_for-requires c = let S = c.lay_out.ensures in (held_few _ c.requires, placed_within _ _ _ _ S.on_columns, placed_within _ _ _ _ S.on_rows)
 
 pub returns-then-out-bytes_for : goal.returns-then-out-bytes_for
 returns-then-out-bytes_for c =
     let a = c.args in
-    let j = job_in a.number a.n a.numbers.now a.x1.now a.y1.now a.x2.now a.y2.now in
-    let p = c.lay_out-size in
-    (short_plan j p.result _ _ _ _ _ _ (surveyed j p.result _ _ _ _ _ _ p.ensures.0 p.ensures.1) a.out.now (length a.work.now) _ c.words_for-words.ensures _ c.bytes_for.ensures c.if-work-words.false c.if-out-bytes_for.true, refl)
+    (short_plan a.job.now _ _ c.lay_out.ensures a.out.now (length a.work.now) _ c.words_for.ensures _ c.bytes_for.ensures c.if-work-words_for.false c.if-out-bytes_for.true, refl)
 
 pub plan_groups-requires : goal.plan_groups-requires
 plan_groups-requires c =
     let a = c.args in
-    let j = job_in a.number a.n a.numbers.now a.x1.now a.y1.now a.x2.now a.y2.now in
-    let p = c.lay_out-size in
-    let w = c.words_for-words.ensures in
+    let w = c.words_for.ensures in
     let b = c.bytes_for.ensures in
-    let v = surveyed j p.result _ _ _ _ _ _ p.ensures.0 p.ensures.1 in (
+    let v = c.lay_out.ensures in (
       c.requires,
       v,
       record {
-        words = lent_words j p.result _ _ _ _ _ _ v a.out.now (length a.work.now) _ w _ b c.if-work-words.false c.if-out-bytes_for.false;
-        bytes = lent_bytes j p.result _ _ _ _ _ _ v a.out.now (length a.work.now) _ w _ b c.if-work-words.false c.if-out-bytes_for.false;
+        words = lent_words a.job.now _ _ v a.out.now (length a.work.now) _ w _ b c.if-work-words_for.false c.if-out-bytes_for.false;
+        bytes = lent_bytes a.job.now _ _ v a.out.now (length a.work.now) _ w _ b c.if-work-words_for.false c.if-out-bytes_for.false;
       },
-      words_is j p.result _ _ _ _ _ _ v a.out.now (length a.work.now) _ w,
-      c.find_neighbours.ensures.0 ∙ ap (λ rs. neighbour_sets (meets_in rs) a.n) (sym (plane_held j)),
+      c.find_neighbours.ensures.0 ∙ ap (λ rs. neighbour_sets (meets_in rs) a.job.now.count) (sym (plane_held a.job.now)),
     )
 
 pub returns : goal.returns
 returns c =
     let a = c.args in
-    let j = job_in a.number a.n a.numbers.now a.x1.now a.y1.now a.x2.now a.y2.now in
-    let p = c.lay_out-size in
     let g = c.plan_groups.ensures in
-    (goes_on j p.result _ _ _ _ _ _ (surveyed j p.result _ _ _ _ _ _ p.ensures.0 p.ensures.1) a.out.now (length a.work.now) _ c.words_for-words.ensures _ c.bytes_for.ensures c.if-work-words.false c.if-out-bytes_for.false _ _ g.0, g.1)
+    (goes_on a.job.now _ _ c.lay_out.ensures a.out.now (length a.work.now) _ c.words_for.ensures _ c.bytes_for.ensures c.if-work-words_for.false c.if-out-bytes_for.false _ _ g.0, g.1)

@@ -8,8 +8,8 @@ use Rattle.records.specs.Records.{decoded}
 use Rattle.records.proofs.Records.{record_none, record_some}
 use Rattle.records.proofs.first_record.Goals as goal
 
-pub returns-then-book-eq0 : goal.returns-then-book-eq0
-returns-then-book-eq0 c = record_none _ c.if-book-eq0.true
+pub returns-in_default : goal.returns-in_default
+returns-in_default c = record_none _ (omega (arith, c.in_default.len_below))
 
 pub returns : goal.returns
 returns c =

@@ -8,29 +8,29 @@ use Rattle.report.proofs.list_job.Goals as goal
 
 pub slice_bounds-out-end : goal.slice_bounds-out-end
 slice_bounds-out-end c =
-    let p = c.plan-answer in
+    let p = c.plan in
     let job = c.args.job.now in
-    omega (arith, plan_within job p.result p.new.out (answered job p.result p.new.out (λ i. (c.shared_slice_known-1.given i).fits) p.ensures.0) _ c.in-Planned.is)
+    omega (arith, plan_within job p.result p.new.out (answered job p.result p.new.out (λ i. (c.type_inv.job i).fits) p.ensures.0) _ c.in-Ok.is)
 
 pub slice_bounds-list_plan-end : goal.slice_bounds-list_plan-end
 slice_bounds-list_plan-end c =
-    let p = c.plan-answer in
+    let p = c.plan in
     let job = c.args.job.now in
-    let h = plan_within job p.result p.new.out (answered job p.result p.new.out (λ i. (c.shared_slice_known-1.given i).fits) p.ensures.0) _ c.in-Planned.is in
+    let h = plan_within job p.result p.new.out (answered job p.result p.new.out (λ i. (c.type_inv.job i).fits) p.ensures.0) _ c.in-Ok.is in
     sym (length-take-le _ p.new.out (omega (arith, h)))
 
-pub returns-in-Planned : goal.returns-in-Planned
-returns-in-Planned c =
+pub returns-in-Ok : goal.returns-in-Ok
+returns-in-Ok c =
     let l = c.list_plan.ensures in
-    let p = c.plan-answer in
+    let p = c.plan in
     let job = c.args.job.now in
-    let call = answered job p.result p.new.out (λ i. (c.shared_slice_known-1.given i).fits) p.ensures.0 in
-    record { reported = plan_reported job p.result p.new.out call _ _ _ (λ i. (c.shared_slice_known-1.given i).fits) _ c.in-Planned.is l; within = (l.within, l.front) }
+    let call = answered job p.result p.new.out (λ i. (c.type_inv.job i).fits) p.ensures.0 in
+    record { reported = plan_reported job p.result p.new.out call _ _ _ (λ i. (c.type_inv.job i).fits) _ c.in-Ok.is l; within = (l.within, l.front) }
 
-pub returns-in-Refused : goal.returns-in-Refused
-returns-in-Refused c =
+pub returns-in-Err : goal.returns-in-Err
+returns-in-Err c =
     let l = c.list_refusal.ensures in
-    let p = c.plan-answer in
+    let p = c.plan in
     let job = c.args.job.now in
-    let call = answered job p.result p.new.out (λ i. (c.shared_slice_known-1.given i).fits) p.ensures.0 in
-    record { reported = refusal_reported job p.result p.new.out call _ _ _ _ c.in-Refused.is l; within = (l.within, l.front) }
+    let call = answered job p.result p.new.out (λ i. (c.type_inv.job i).fits) p.ensures.0 in
+    record { reported = refusal_reported job p.result p.new.out call _ _ _ _ c.in-Err.is l; within = (l.within, l.front) }

@@ -1,17 +1,24 @@
--- `route::mark` meets its contract: on each way it is known whether the vertex is a pit only now.
-use mathlib.Core.Bool.{true, false, ◌||◌}
+-- `route::mark` meets its contract: the digits are set, and a pit came where the test says so.
+use mathlib.Core.Path.{◌≡◌, refl}
+use mathlib.Core.Bool.{Bool, true, false, cond, ◌||◌}
+use Prim.Native.Nat.{◌≤◌}
 use native.Mathlib.Omega.{arith}
+use mir.Val.{bool_byte}
 use Rattle.route.specs.Marked.{indexes_of, along}
-use Rattle.route.specs.Route.{dir_of}
 use Rattle.route.proofs.Marks.{mark_one}
 use Rattle.route.proofs.mark.Goals as goal
 
-pub returns-then-after-before : goal.returns-then-after-before
-returns-then-after-before c =
-    let a = c.args in
-    (mark_one a.width a.marks.now (indexes_of a.v) (λ d. a.corner || along d (dir_of a.heading)) c.requires.0 _ c.digits_of.ensures true c.if-after-before.true, omega arith)
+-- a test as a number
+number_of : (b : Bool) → bool_byte b ≡ cond b 1 0
+number_of true = refl
+number_of false = refl
 
-pub returns-else-after-before : goal.returns-else-after-before
-returns-else-after-before c =
+at_most_one : (b : Bool) → cond b 1 0 ≤ 1
+at_most_one true = omega arith
+at_most_one false = omega arith
+
+pub returns : goal.returns
+returns c =
     let a = c.args in
-    (mark_one a.width a.marks.now (indexes_of a.v) (λ d. a.corner || along d (dir_of a.heading)) c.requires.0 _ c.digits_of.ensures false c.if-after-before.false, omega arith)
+    rw (c.from.ensures, number_of _)
+    (mark_one a.width a.marks.now (indexes_of a.v) (λ d. a.corner || along d a.heading) c.requires.0 _ c.digits_of.ensures _ refl, at_most_one _)

@@ -7,7 +7,7 @@ use Rattle.route.specs.declared.Walker.{Walker}
 use Rattle.route.specs.Route.{Route, route_by, OnGrid, indexed}
 use Rattle.route.specs.Marked.{indexes_of}
 use Rattle.route.proofs.Walk.{On, on_start, on_step, on_few, can_step, at_step, column_below, row_below, visits_next, visits_end, left_turned, left_straight, left_end}
-use Rattle.route.proofs.Corners.{visits_touched, left_start, corners_few}
+use Rattle.route.proofs.Corners.{visits_touched, left_start}
 use Rattle.route.proofs.Marks.{mark_inside, rest_all, rest_one, rest_last}
 use Rattle.route.proofs.mark_route.Goals as goal
 use Rattle.route.proofs.mark_route.Goals.{else-s, then-s}
@@ -37,20 +37,6 @@ mark-pits-requires c =
     let l = c.loop-w in
     inside _ _ _ _ _ l.invariant.0 c.requires.1 l.invariant.2
 
-pub overflow_add-pits : goal.overflow_add-pits
-overflow_add-pits c =
-    let o = c.loop-w.invariant.0 in
-    omega (arith, on_few _ _ o)
-
-pub overflow_add-corners : goal.overflow_add-corners
-overflow_add-corners c =
-    let l = c.loop-w in
-    omega (arith, corners_few _ l.invariant.0.grid)
-
-pub loop-w-smaller : goal.loop-w-smaller
-loop-w-smaller c =
-    omega (arith, at_step _ _ _ c.loop-w.invariant.0 c.loop-w-test.true c.step-s.ensures)
-
 pub loop-w-preserved : goal.loop-w-preserved
 loop-w-preserved c =
     let m = c.mark-pits in
@@ -71,14 +57,6 @@ pub mark-pits-requires-2 : goal.mark-pits-requires-2
 mark-pits-requires-2 c =
     let l = c.loop-w in
     inside _ _ _ _ _ l.invariant.0 c.requires.1 l.invariant.2
-
-pub overflow_add-pits-2 : goal.overflow_add-pits-2
-overflow_add-pits-2 c =
-    let o = c.loop-w.invariant.0 in
-    omega (arith, on_few _ _ o)
-
-pub shape_of-marks : goal.shape_of-marks
-shape_of-marks c = omega arith
 
 pub returns : goal.returns
 returns c =

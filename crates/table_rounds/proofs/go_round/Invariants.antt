@@ -2,5 +2,5 @@
 use Rattle.std.proofs.Common.{◌≡◌, ◌<◌, length}
 use Rattle.table_rounds.proofs.go_round.Given as goal
 
-abbrev pub invariant-loop-i : goal.invariant-loop-i
-invariant-loop-i l = (l.sum < 65536) × (length l.work ≡ length l.fn.work) × (length l.steps ≡ 128) × (length l.shares ≡ 128)
+abbrev pub invariant-loop : goal.invariant-loop
+invariant-loop l = (l.sum < 65536) × (length l.work ≡ length l.fn.work) × (length l.trace.steps ≡ 128) × (length l.trace.shares ≡ 128)

@@ -1,4 +1,6 @@
 -- `text::record_size` meets its contract: each arm is a case of `record_size`.
+use mathlib.Core.Path.{refl}
+use mathlib.Core.Logic.{inl, inr}
 use native.Mathlib.Omega.{arith}
 use borrow.Author.Rules.{rules}
 use Rattle.text.specs.Listing.{record_size}
@@ -19,8 +21,8 @@ returns-in-Corner c = search rules
 
 pub returns-in-End : goal.returns-in-End
 unfolding record_size
-returns-in-End c = search rules
-
-pub returns-in-Other : goal.returns-in-Other
-unfolding record_size
-returns-in-Other c = search rules
+returns-in-End c =
+    elim c.in-End.is [
+      | inl e ↦ rw e.1 (record { size = refl; some = omega arith })
+      | inr e ↦ rw e (record { size = refl; some = omega arith })
+    ]

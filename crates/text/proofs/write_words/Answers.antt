@@ -1,14 +1,6 @@
-use Rattle.text.proofs.Listed.{copied_none, copied_next, copied_all, copied_full}
+-- `text::write_words` meets its contract: as much is copied as there is, or as there is room for.
+use Rattle.text.proofs.Listed.{listed_copy}
 use Rattle.text.proofs.write_words.Goals as goal
 
-pub loop-at-init : goal.loop-at-init
-loop-at-init c = copied_none _ _
-
-pub returns-then-at-text : goal.returns-then-at-text
-returns-then-at-text c = copied_full _ _ _ _ c.loop-at.invariant c.if-at-text.true
-
-pub loop-at-preserved : goal.loop-at-preserved
-loop-at-preserved c = copied_next _ _ _ _ c.loop-at.invariant c.loop-at-test.true c.if-at-text.false
-
 pub returns : goal.returns
-returns c = copied_all _ _ _ _ c.loop-at.invariant c.loop-at-test.false
+returns c = rw c.copy_from_slice.ensures.after (listed_copy _ _ _ c.min-n.ensures)

@@ -1,5 +1,6 @@
 -- `book::steps::step_at` meets its contract: by the record that stands there.
 use mathlib.Core.Path.{◌≡◌, refl, sym, ap, ◌∙◌}
+use mathlib.Core.Logic.{inl, inr}
 use mathlib.Core.List.{List}
 use mathlib.Core.Bool.{true, false, ◌||◌}
 use Prim.Native.Nat.{ℕ, ◌-◌}
@@ -11,58 +12,49 @@ use borrow.Author.Tests.{lt-ltb, le-ltb}
 use Rattle.records.specs.declared.Record.{Record}
 use Rattle.records.specs.Records.{record_of}
 use Rattle.book.specs.Parse.{corner_step, mixed, step_by}
+use Rattle.book.proofs.Tests.{mixed_test}
 use Rattle.book.proofs.steps.step_at.Goals as goal
 
 -- the record that stands there
-found_there : (s : List ℕ) (at : ℕ) (g : Record) → g ≡ record_of (take (length s - at) (drop at s)) → g ≡ record_of (drop at s)
-found_there s at g e = e ∙ ap record_of (take_all (length s - at) (drop at s) (omega (arith, length-drop at s)))
+found_there : (s : List ℕ) (at : ℕ) (g : Record) → g ≡ record_of (take (length s - at) (drop at s)) → record_of (drop at s) ≡ g
+found_there s at g e = sym (e ∙ ap record_of (take_all (length s - at) (drop at s) (omega (arith, length-drop at s))))
 
-pub returns-then-mixed-w : goal.returns-then-mixed-w
+pub returns-then-grouped-w : goal.returns-then-grouped-w
 unfolding step_by
-returns-then-mixed-w c =
-    let there = found_there c.args.book.now c.args.at _ c.first_record-found.ensures in
-    let w = c.args.w in
+returns-then-grouped-w c =
     let g = c.in-Route in
-    let e : (mixed g.grouped w.grouped || leb 32 w.routes) ≡ true = ap (λ q. q || leb 32 w.routes) (sym c.mixed.ensures) ∙ c.if-mixed-w.true in
-    rw (sym there ∙ g.is) (simp e)
+    let w = c.args.w in
+    let e : (mixed g.grouped w.grouped || leb 32 w.routes) ≡ true = ap (λ q. q || leb 32 w.routes) (mixed_test g.grouped w.grouped) ∙ c.if-grouped-w.true in
+    rw (found_there c.args.book.now c.args.at _ g.ensures) (simp e)
 
 pub returns-then-book-at-gt3 : goal.returns-then-book-at-gt3
 unfolding step_by
-returns-then-book-at-gt3 c =
-    let there = found_there c.args.book.now c.args.at _ c.first_record-found.ensures in
-    rw (sym there ∙ c.in-End.is, length-drop) (simp (lt-ltb _ _ c.if-book-at-gt3.true))
+returns-then-book-at-gt3 c = rw (found_there c.args.book.now c.args.at _ c.in-End.ensures, length-drop) (simp (lt-ltb _ _ c.if-book-at-gt3.true))
 
 pub returns-in-Head : goal.returns-in-Head
 unfolding step_by
 returns-in-Head c =
-    let there = found_there c.args.book.now c.args.at _ c.first_record-found.ensures in
-    rw (sym there ∙ c.in-Head.is) refl
+    let a = c.args in
+    elim c.in-Head.is [
+      | inl h ↦ rw (found_there a.book.now a.at _ (sym h.1 ∙ c.first_record.ensures)) refl
+      | inr h ↦ rw (found_there a.book.now a.at _ (sym h ∙ c.first_record.ensures)) refl
+    ]
 
-pub returns-else-mixed-w : goal.returns-else-mixed-w
+pub returns-else-grouped-w : goal.returns-else-grouped-w
 unfolding step_by
-returns-else-mixed-w c =
-    let there = found_there c.args.book.now c.args.at _ c.first_record-found.ensures in
-    let w = c.args.w in
+returns-else-grouped-w c =
     let g = c.in-Route in
-    let e : (mixed g.grouped w.grouped || leb 32 w.routes) ≡ false = ap (λ q. q || leb 32 w.routes) (sym c.mixed.ensures) ∙ c.if-mixed-w.false in
-    rw (sym there ∙ g.is) (simp e)
+    let w = c.args.w in
+    let e : (mixed g.grouped w.grouped || leb 32 w.routes) ≡ false = ap (λ q. q || leb 32 w.routes) (mixed_test g.grouped w.grouped) ∙ c.if-grouped-w.false in
+    rw (found_there c.args.book.now c.args.at _ g.ensures) (simp e)
 
 pub returns-in-Corner : goal.returns-in-Corner
 unfolding step_by
 returns-in-Corner c =
-    let there = found_there c.args.book.now c.args.at _ c.first_record-found.ensures in
     let a = c.args in
-    rw (sym there ∙ c.in-Corner.is)
+    rw (found_there c.args.book.now c.args.at _ c.in-Corner.ensures)
     (c.corner_step.ensures ∙ λ i. corner_step a.at a.w (record { x = c.biased.ensures i; y = c.biased-in-Corner.ensures i }))
 
 pub returns-else-book-at-gt3 : goal.returns-else-book-at-gt3
 unfolding step_by
-returns-else-book-at-gt3 c =
-    let there = found_there c.args.book.now c.args.at _ c.first_record-found.ensures in
-    rw (sym there ∙ c.in-End.is, length-drop) (simp (le-ltb _ _ c.if-book-at-gt3.false))
-
-pub returns-in-Other : goal.returns-in-Other
-unfolding step_by
-returns-in-Other c =
-    let there = found_there c.args.book.now c.args.at _ c.first_record-found.ensures in
-    rw (sym there ∙ c.in-Other.is) refl
+returns-else-book-at-gt3 c = rw (found_there c.args.book.now c.args.at _ c.in-End.ensures, length-drop) (simp (le-ltb _ _ c.if-book-at-gt3.false))

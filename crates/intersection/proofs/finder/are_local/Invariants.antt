@@ -1,7 +1,6 @@
 -- The invariant: every run passed is local.
 use mathlib.Core.Path.{◌≡◌}
 use mathlib.Core.Bool.{true}
-use Prim.Native.Nat.{◌≤◌, ◌-◌}
 use Rattle.network.specs.Lists.{every}
 use Rattle.network.specs.Graph.{below}
 use Rattle.groups.specs.Near.{is_local}
@@ -9,7 +8,4 @@ use Rattle.intersection.specs.Centres.{joined_in}
 use Rattle.intersection.proofs.finder.are_local.Given as goal
 
 abbrev pub invariant-loop-i : goal.invariant-loop-i
-invariant-loop-i l = (l.i ≤ l.n) × (every (is_local (joined_in l.neighbours) 32) (below l.i) ≡ true)
-
-abbrev pub decreases-loop-i : goal.decreases-loop-i
-decreases-loop-i l = l.n - l.i
+invariant-loop-i l = every (is_local (joined_in l.neighbours) 32) (below l.i) ≡ true

@@ -2,12 +2,10 @@
 use mathlib.Core.Path.{◌≡◌}
 use mathlib.Core.Bool.{true}
 use mathlib.Core.List.{List}
-use Prim.Native.Nat.{◌-◌, ◌≤◌}
 use lib.Dec.{eqb}
 use lib.ListN.{get_or}
 use Rattle.network.specs.Lists.{every}
 use Rattle.network.specs.Graph.{below}
-use Rattle.plan.specs.declared.Head.{Head}
 use Rattle.plan.specs.Plan.{Entry}
 use Rattle.judge.specs.Judged.{entry_at}
 use Rattle.judge.specs.Steps.{ReadAs}
@@ -15,8 +13,4 @@ use Rattle.judge.proofs.compared.is_of.Given as goal
 
 abbrev pub invariant-loop-i : goal.invariant-loop-i
 invariant-loop-i l =
-    (l.i ≤ l.n)
-    × ((h : Head) (es : List Entry) → ReadAs l.book l.places h es → h.runs ≡ l.n → every (λ k. eqb (entry_at es k).number (get_or l.numbers k 0)) (below l.i) ≡ true)
-
-abbrev pub decreases-loop-i : goal.decreases-loop-i
-decreases-loop-i l = l.n - l.i
+    (es : List Entry) → ReadAs l.book l.reading es → every (λ k. eqb (entry_at es k).number (get_or l.job.numbers k 0)) (below l.i) ≡ true

@@ -8,5 +8,5 @@ use Rattle.planner.proofs.meetings.neighbours_of.Goals as goal
 
 pub returns : goal.returns
 returns c =
-    let j = c.args.j in
+    let j = c.args.j.now in
     c.neighbours.ensures ∙ ap (λ (runs : List Run). neighbour_sets (meets_in runs) j.count) (sym (plane_held j))

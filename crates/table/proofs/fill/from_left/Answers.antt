@@ -1,5 +1,5 @@
 -- The words where the edge begins are those of the cell that is handed on.
-use mathlib.Core.Path.{sym, ◌∙◌}
+use mathlib.Core.Path.{sym}
 use Rattle.table.proofs.Rule.{enter_none}
 use Rattle.table.proofs.fill.from_left.Goals as goal
 
@@ -7,14 +7,3 @@ pub returns-then-a-eq0 : goal.returns-then-a-eq0
 returns-then-a-eq0 c =
     let a = c.args in
     sym (enter_none a.a _ _ _ a.col a.left a.row a.cross c.if-a-eq0.true)
-
-pub overflow_sub-p : goal.overflow_sub-p
-overflow_sub-p c =
-    (c.requires c.if-a-eq0.false).0
-
-pub enter-requires : goal.enter-requires
-enter-requires c =
-    λ z. rw c.start_at.ensures.0 (c.requires c.if-a-eq0.false).1
-
-pub returns : goal.returns
-returns c = c.enter.ensures ∙ rw c.start_at.ensures.0

@@ -1,5 +1,4 @@
-use borrow.Author.Rules.{rules}
-use mathlib.Core.Path.{◌≡◌, refl, sym}
+use mathlib.Core.Path.{sym}
 use Rattle.intersection.proofs.Digits.{pack_none, pack_lt}
 use Rattle.table.specs.Frame.{crosses}
 use Rattle.table.proofs.Boxes.{pack_more}
@@ -7,25 +6,14 @@ use native.Mathlib.Omega.{arith}
 use Rattle.table.proofs.frame.crossing.Goals as goal
 
 pub loop-k-init : goal.loop-k-init
-loop-k-init c = (search rules, sym (pack_none (crosses _ _ _ _ _)), refl, refl)
+loop-k-init c = sym (pack_none (crosses _ _ _ _ _))
 
 pub with_bit-s-requires : goal.with_bit-s-requires
-with_bit-s-requires c =
-    (omega arith, rw c.loop-k.invariant.1 (pack_lt (crosses _ _ _ _ _) c.loop-k.k))
+with_bit-s-requires c = (omega arith, rw c.loop-k.invariant (pack_lt (crosses _ _ _ _ _) c.loop-k.k))
 
 pub loop-k-preserved : goal.loop-k-preserved
 unfolding crosses
 loop-k-preserved c =
     let l = c.loop-k in
-    let a = c.args in (
-      search rules,
-      rw (pack_more (crosses a.xfirst.now a.xsecond.now a.yfirst.now a.ysecond.now a.centre) l.k, ← l.invariant.1, ← l.invariant.2, ← l.invariant.3, ← c.goes_down-down.ensures) c.with_bit-s.ensures,
-      l.invariant.2,
-      l.invariant.3,
-    )
-
-pub returns : goal.returns
-returns c =
-    let l = c.loop-k in
-    let e : l.k ≡ c.args.n = omega arith in
-    rw (← e) l.invariant.1
+    let a = c.args in
+    rw (pack_more (crosses a.x.now.first a.x.now.second a.y.now.first a.y.now.second a.centre) l.k, ← l.invariant, ← c.goes_down-down.ensures) c.with_bit-s.ensures

@@ -10,11 +10,6 @@ returns-then-i-eq0 c =
     let a = c.args in
     (λ on e f. first_line on _ a.p a.q a.i _ c.if-i-eq0.true e, refl)
 
-pub offset_bounds-lines-low : goal.offset_bounds-lines-low
-offset_bounds-lines-low c =
-    let a = c.args in
-    omega (arith, c.lower_of-low.ensures.0, lower_lt 64 a.p a.q (a.i - 1) c.requires.0 c.requires.1 (omega arith))
-
 pub bounds-lines-low : goal.bounds-lines-low
 bounds-lines-low c =
     let a = c.args in

@@ -1,2 +1,0 @@
--- What the contracts of `intersection_vectors` cite.
-pub mod Text

@@ -1,9 +1,0 @@
--- By the test of the definition.
-use borrow.Author.Tests.{eq-eqb, ne_eqb}
-use Rattle.layout.proofs.passes_forth.Goals as goal
-
-pub returns-then-step-eq0 : goal.returns-then-step-eq0
-returns-then-step-eq0 c = rw (eq-eqb _ _ c.if-step-eq0.true)
-
-pub returns-else-step-eq0 : goal.returns-else-step-eq0
-returns-else-step-eq0 c = rw (ne_eqb _ _ c.if-step-eq0.false)

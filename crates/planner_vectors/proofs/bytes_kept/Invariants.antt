@@ -1,6 +1,0 @@
--- Each round looks at one byte more.
-use Rattle.std.proofs.Common.{length, ◌-◌}
-use Rattle.planner_vectors.proofs.bytes_kept.Given as goal
-
-abbrev pub decreases-loop-i : goal.decreases-loop-i
-decreases-loop-i l = length l.out - l.i
