@@ -120,21 +120,21 @@ fn record_at(job: &[u8], at: usize) -> Record
 fn number_follows(last: u32, number: u32) -> bool
     ensures { result ≡ follows last number }
 {
-    (1..=9999).contains(&number) && last < number
+    (1..=9999).contains(&number) & (last < number)
 }
 
-// All four coordinates are in their range.
+// All four coordinates are in their range. With `&` the compiler makes one comparison of the four, with `&&` a jump each.
 fn coordinates_in(run: Run) -> bool
     ensures { result ≡ coordinates_in run }
 {
-    run.x1 <= 2000000 && run.y1 <= 2000000 && run.x2 <= 2000000 && run.y2 <= 2000000
+    (run.x1 <= 2000000) & (run.y1 <= 2000000) & (run.x2 <= 2000000) & (run.y2 <= 2000000)
 }
 
 // The two points of a run are one.
 pub fn coincide(run: Run) -> bool
     ensures { result ≡ coincide run }
 {
-    run.x1 == run.x2 && run.y1 == run.y2
+    (run.x1 == run.x2) & (run.y1 == run.y2)
 }
 
 // A run record at a place, after n runs of which the last has the number last: one more run, or a refusal.
