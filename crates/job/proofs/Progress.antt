@@ -60,10 +60,22 @@ refuses : (s : List ℕ) (x : Refusal) (found : Job) → refused x ≡ parse s �
 refuses s x found e h =
     record { answer = ap answer_said e; held = h; whole = λ a. absurd (let z : ◌≡◌ {A = ℕ} 0 1 = cc a in omega arith) }
 
+-- arrays of zeros hold no run
+blank_none : (j : Job) → Blank j → (number : ℕ) → record j { number = number; count = 0 } ≡ job_of number []
+blank_none j blank number i =
+    record {
+      number = number;
+      count = 0;
+      numbers = blank.0 i;
+      x = record { first = blank.1 i; second = blank.2 i };
+      y = record { first = blank.3 i; second = blank.4 i };
+    }
+
 -- a first record that is no head
-pub first_refused : (s : List ℕ) (x : Refusal) (found : Job) → Blank found → head_number (record_of s) ≡ Err x → ReadsInto s (Err x) found
+pub first_refused : (s : List ℕ) (x : Refusal) (found : Job) → Blank found → head_number (record_of s) ≡ Err x
+    → ReadsInto s (Err x) (record found { number = 0; count = 0 })
 unfolding parse first_by runs_before
-first_refused s x found blank e = rw blank (refuses s x (job_of 0 []) (go (record_of s) e) refl)
+first_refused s x found blank e = rw (blank_none found blank 0) (refuses s x (job_of 0 []) (go (record_of s) e) refl)
   where
     go : (g : Record) → head_number g ≡ Err x → refused x ≡ first_by g (drop 5 s)
     go rec.Unknown e = let same : x ≡ UnknownKind 0 = cc e in ap refused same
@@ -81,12 +93,13 @@ is_head (rec.Run r) number e = absurd (let z : ◌≡◌ {A = ℕ} 0 1 = cc e in
 is_head (rec.End count) number e = absurd (let z : ◌≡◌ {A = ℕ} 0 1 = cc e in omega arith)
 
 -- after the head
-pub so_far_none : (s : List ℕ) (number : ℕ) (found : Job) → Blank found → head_number (record_of s) ≡ Ok number → SoFar s (record found { number = number }) 5 0
+pub so_far_none : (s : List ℕ) (number : ℕ) (found : Job) → Blank found → head_number (record_of s) ≡ Ok number
+    → SoFar s (record found { number = number; count = 0 }) 5 0
 unfolding parse first_by runs_before
 so_far_none s number found blank h =
     let e = is_head (record_of s) number h in
     let says = rw e at (record_says s) in
-    rw blank
+    rw (blank_none found blank number)
     (record {
       most = omega arith;
       place = refl;

@@ -88,9 +88,10 @@ unfoldable pub runs_before : List ℕ → ℕ → List Run
 runs_before s zero = []
 runs_before s (suc n) = runs_before s n ++ (run_in (record_of (drop (5 + 19 * n) s)) ∷ [])
 
--- the job has the number 0 and no run
+-- the job's five arrays are zeros, whatever its number and count
 abbrev pub Blank : Job → Type 0
-Blank j = j ≡ job_of 0 []
+Blank j =
+    (j.numbers ≡ replicate 32 0) × (j.x.first ≡ replicate 32 0) × (j.x.second ≡ replicate 32 0) × (j.y.first ≡ replicate 32 0) × (j.y.second ≡ replicate 32 0)
 
 -- Reading into a job answers as the bytes say. The job has its first runs and zeros after them; where it is accepted, those are all its runs.
 pub record ReadsInto (s : List ℕ) (r : Answer) (j : Job) : Type 0 where

@@ -231,12 +231,11 @@ pub fn empty_job() -> Job
 }
 
 impl Job {
-    // A run behind the others.
-    fn add(&mut self, run: Run)
-        requires { self.old.count < 32 }
+    // A run behind the n others.
+    fn add(&mut self, n: usize, run: Run)
+        requires { (n ≡ self.old.count) × (n < 32) }
         ensures { self.new ≡ with_run self.old run }
     {
-        let n = self.count;
         self.numbers[n] = run.number;
         self.x.first[n] = run.x1;
         self.y.first[n] = run.y1;
@@ -246,17 +245,22 @@ impl Job {
     }
 }
 
-// Reads a job into an empty one, or gives the first refusal of 3 to 9 and 17 that applies. Of a job that is refused, the runs before the refusal stand there.
+// Reads a job into one whose arrays are zeros, or gives the first refusal of 3 to 9 and 17 that applies. Of a job that is refused, the runs before the refusal
+// stand there. Nothing is loaded from the job that is lent: where its caller wants the answer alone, the compiler leaves the zeros out.
 pub fn read_into(bytes: &[u8], job: &mut Job) -> Result<(), Refusal>
     requires { Blank job.old }
     ensures { ReadsInto bytes.now result job.new }
 {
+    job.number = 0;
+    job.count = 0;
     job.number = head_number(bytes)?;
     let mut at: usize = 5;
+    let mut n: usize = 0;
     let mut last: u32 = 0;
-    while let Some(run) = step_at(bytes, at, job.count, last)? {
-        job.add(run);
+    while let Some(run) = step_at(bytes, at, n, last)? {
+        job.add(n, run);
         at += 19;
+        n += 1;
         last = run.number;
     }
     Ok(())
