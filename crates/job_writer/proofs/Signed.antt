@@ -7,8 +7,8 @@ use native.Mathlib.Omega.{arith}
 use native.Mathlib.Decide.{dec_lt}
 use borrow.Author.Tests.{lt-ltb, le-ltb, le-leb, ltb-true, leb-true}
 use lib.IntN.{ℤ, pos, negsuc, nat_abs, ◌+ℤ◌, ◌-ℤ◌, +ℤ-neg_ℤ_cancel, -ℤ-+ℤ_cancel}
-use lib.Dec.{leb, ltb}
-use lib.Signed.{mag}
+use lib.Dec.{T, leb, ltb}
+use lib.Signed.{mag, le_z, lt_z, non_neg}
 use mir.Syntax.{w32}
 use mir.Val.{to_z, of_z}
 use mir.ValLaws.{to_z-of_z}
@@ -50,6 +50,16 @@ true_in_range c h = go (dec_lt c 1000000)
 
 -- ---- run numbers
 
+-- a number from 1 on is not below 0
+pub positive : (z : ℤ) → le_z (pos 1) z ≡ true → T (non_neg z)
+positive (pos n) t = tt
+positive (negsuc n) t = absurd (let z : ◌≡◌ {A = ℕ} 0 1 = cc in omega arith)
+
+-- a run number that follows another, whatever that is, is from 1 on
+pub follows_least : (last z : ℤ) → follows last z ≡ true → le_z (pos 1) z ≡ true
+follows_least last z t =
+    ((and-eq-true_iff (le_z (pos 1) z) (le_z z (pos 9999))).0 ((and-eq-true_iff (le_z (pos 1) z && le_z z (pos 9999)) (lt_z last z)).0 t).0).0
+
 -- a number that comes behind a number that is not below 0
 pub record Follows (last : ℕ) (z : ℤ) : Type 0 where
   pub least : 1 ≤ nat_abs z
@@ -62,7 +72,7 @@ follows_true last (pos n) t =
     let f = (and-eq-true_iff (leb 1 n && leb n 9999) (ltb last n)).0 t in
     let g = (and-eq-true_iff (leb 1 n) (leb n 9999)).0 f.0 in
     record { least = leb-true _ _ g.0; most = leb-true _ _ g.1; rises = ltb-true _ _ f.1; same = refl }
-follows_true last (negsuc n) t = absurd (let z : ◌≡◌ {A = ℕ} 0 1 = cc in omega arith)
+follows_true last (negsuc n) t = absurd (positive (negsuc n) (follows_least (pos last) (negsuc n) t))
 
 pub true_follows : (last n : ℕ) → 1 ≤ n → n ≤ 9999 → last < n → follows (pos last) (pos n) ≡ true
 true_follows last n a b c = simp (le-leb 1 n a, le-leb n 9999 b, lt-ltb last n c)

@@ -6,15 +6,17 @@ use mathlib.Core.List.{List, ◌++◌}
 use mathlib.Core.Bool.{true}
 use native.Mathlib.Omega.{arith}
 use native.Mathlib.Numerals.{add-one}
-use lib.IntN.{ℤ}
+use lib.IntN.{ℤ, pos}
 use lib.ListN.{length}
+use lib.Signed.{le_z}
 use borrow.Rule.Slice.PartMut.{mid_of, put_mid}
 use Rattle.fields.specs.Bytes.{Wrote}
 use Rattle.fields.proofs.Over.{Rest, rest_all, rest_next, rest_none}
 use Rattle.std.specs.Prelude.{Ok}
 use Rattle.job.specs.Written.{run_bytes, runs_bytes}
 use Rattle.job.proofs.Accepted.{runs_length}
-use Rattle.job_writer.specs.Listed.{listed_at, run_of, runs_from, coordinates_in, run_answer, runs_answer}
+use Rattle.job_writer.specs.Listed.{listed_at, run_of, runs_from, number_before, coordinates_in, run_answer, runs_answer}
+use Rattle.job_writer.proofs.Signed.{follows_least}
 use Rattle.job_writer.proofs.Runs.{neither, run_passed, left_more, answers_next, runs_count}
 
 pub record Writing (list : List ℤ) (count : ℕ) (xs ys : List ℕ) (at i : ℕ) : Type 0 where
@@ -40,8 +42,10 @@ module _ (list : List ℤ) (count : ℕ) (xs ys : List ℕ) (at i : ℕ) (w : Wr
   both = neither (run_answer list i) (runs_answer list (count - (i + 1)) (i + 1)) (sym (answers_next list count i h) ∙ w.good)
 
   -- the next run can be held
-  pub next_held : coordinates_in (listed_at list i) ≡ true
-  next_held = (run_passed list i both.0).1
+  pub next_held : (le_z (pos 1) (listed_at list i).number ≡ true) × (coordinates_in (listed_at list i) ≡ true)
+  next_held =
+      let p = run_passed list i both.0 in
+      (follows_least (number_before list i) (listed_at list i).number p.0, p.1)
 
   next_bytes : runs_bytes (runs_from list (count - i) i) ≡ run_bytes (run_of (listed_at list i)) ++ runs_bytes (runs_from list (count - (i + 1)) (i + 1))
   unfolding runs_from runs_bytes

@@ -12,7 +12,7 @@ pub listed_at-requires : goal.listed_at-requires
 listed_at-requires c = omega arith
 
 pub run_of-requires : goal.run_of-requires
-run_of-requires c = rw c.listed_at.ensures (next_held _ _ _ _ _ _ c.loop-i.invariant c.loop-i-test.true)
+run_of-requires c = rw c.listed_at.ensures (next_held _ _ _ _ _ _ c.loop-i.invariant c.loop-i-test.true).1
 
 pub slice_bounds-write_run-count : goal.slice_bounds-write_run-count
 slice_bounds-write_run-count c = omega (arith, next_room _ _ _ _ _ _ c.loop-i.invariant c.loop-i-test.true)
