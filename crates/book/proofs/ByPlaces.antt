@@ -3,7 +3,8 @@ use mathlib.Core.Path.{◌≡◌, refl, sym, ap}
 use mathlib.Core.Bool.{Bool, true, false, cond, ◌&&◌}
 use mathlib.Core.List.{List}
 use Prim.Native.Nat.{ℕ, ◌+◌, ◌≤◌, ◌<◌}
-use lib.ListN.{get_or, drop}
+use native.Mathlib.Omega.{arith}
+use lib.ListN.{length, get_or, drop, get_or-eq_default}
 use lib.Dec.{ltb}
 use borrow.Author.Tests.{lt-ltb, le-ltb}
 use Rattle.records.specs.declared.Record.{Record}
@@ -40,7 +41,15 @@ module _ (book places : List ℕ) (i : ℕ) where
   pub some_route : get_or places i 0 < get_or places (i + 1) 0 → as_route (record_of (drop (get_or places i 0) book)) ≡ route_by book places i
   some_route h = sym (ap (λ b. cond b (as_route (record_of (drop (get_or places i 0) book))) None) (lt-ltb _ _ h))
 
+  -- past the last place
+  pub past_route : length places ≤ i → None ≡ route_by book places i
+  past_route h = no_route (omega (arith, get_or-eq_default places 0 {n = i + 1} (omega arith)))
+
   module _ (j : ℕ) where
+    -- past the corners that a route can have
+    pub far_corner : 127 ≤ j → None ≡ corner_by book places i j
+    far_corner h = simp (le-ltb j 127 h)
+
     -- the next route's place is not behind the corner's
     pub no_corner : get_or places (i + 1) 0 ≤ corner_place (is_grouped book) (get_or places i 0) j → None ≡ corner_by book places i j
     no_corner h = go (ltb j 127)
@@ -53,3 +62,7 @@ module _ (book places : List ℕ) (i : ℕ) where
     pub some_corner : j < 127 → corner_place (is_grouped book) (get_or places i 0) j < get_or places (i + 1) 0
         → as_spot (record_of (drop (corner_place (is_grouped book) (get_or places i 0) j) book)) ≡ corner_by book places i j
     some_corner k h = simp (lt-ltb j 127 k, lt-ltb _ _ h)
+
+    -- past the last place
+    pub past_corner : length places ≤ i → None ≡ corner_by book places i j
+    past_corner h = no_corner (omega (arith, get_or-eq_default places 0 {n = i + 1} (omega arith)))
