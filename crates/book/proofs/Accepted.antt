@@ -8,7 +8,7 @@ use native.Mathlib.Omega.{arith}
 use native.Mathlib.Decide.{dec_lt}
 use borrow.Author.Tests.{leb-true}
 use lib.Dec.{leb}
-use lib.ListN.{length, get_or, drop, replicate, length-map}
+use lib.ListN.{length, get_or, drop, replicate, length-append, length-map, length-replicate}
 use Rattle.network.specs.Lists.{All}
 use Rattle.network.specs.Plane.{Point}
 use Rattle.network.proofs.Tests.{and_split}
@@ -94,6 +94,16 @@ pub reading_refused : (q : Parsed) (x : Refusal) → Err x ≡ reading_of q → 
 unfolding reading_of
 reading_refused (accepted h es) x e = absurd (let z : ◌≡◌ {A = ℕ} 0 1 = cc in omega arith)
 reading_refused (refused y) x e = let same : y ≡ x = cc in ap refused same
+
+-- the places of a book are 33
+pub places_length : (s : List ℕ) → length (places_of (parse_plan s)) ≡ 33
+places_length s = go (parse_plan s) refl
+  where
+    go : (q : Parsed) → parse_plan s ≡ q → length (places_of q) ≡ 33
+    go (accepted h es) e =
+        let l = places h.grouped 19 es in
+        omega (arith, accepted_routes s h es e, length_places h.grouped 19 es, length-append l (replicate (33 - length l) 0), length-replicate {A = ℕ} (33 - length l) 0)
+    go (refused x) e = refl
 
 -- ---- the queries, past the last
 

@@ -2,7 +2,7 @@
 // include/trench.h says what each is lent and leaves.
 #![tactic(auto)]
 
-ghost use Rattle.std.specs.Prelude.{◌≡◌, ℕ, length};
+ghost use Rattle.std.specs.Prelude.{◌≡◌, ◌≤◌, ◌<◌, ℕ, length};
 ghost use Rattle.job.specs.Reading.{place_said};
 ghost use Rattle.job_writer.specs.Call.{call_of};
 ghost use Rattle.planner.specs.Verdict.{forecast_of, verdict};
@@ -134,7 +134,8 @@ pub extern "C" fn trench_figures(book: &[u8], figures: &mut [u32]) -> usize
 // The places of a plan book's routes, of its end, and zeros.
 #[unsafe(no_mangle)]
 pub extern "C" fn trench_places(book: &[u8], places: &mut [u32]) -> usize
-    ensures { Filled (places_of (parse_plan book.now)) places.old places.new result }
+    ensures words { Filled (places_of (parse_plan book.now)) places.old places.new result }
+    ensures count { (33 ≤ length places.old → result ≡ 33) × (length places.old < 33 → result ≡ 0) }
 {
     match book::read(book) {
         Ok(reading) => fill(&reading.places, places),
