@@ -85,9 +85,7 @@ impl<W: Write> Output<W> {
             → Appends (W.contents self.old.to) (W.contents self.new.to) (digit_glyph false (b / 16) ∷ digit_glyph false (b % 16) ∷ []) }
         ensures ended { IsErr self.old.outcome → self.new ≡ self.old }
     {
-        if self.outcome.is_ok() {
-            self.outcome = write!(self.to, "{b:02x}");
-        }
+        self.put(&[digit(b / 16), digit(b % 16)]);
     }
 
     // Writes a line that says what failed and why: a colon, and the error's text, less its number.
@@ -132,6 +130,14 @@ fn text_of(error: io::Error, room: &mut [u8]) -> usize
     let mut rest: &mut [u8] = room;
     let _ = write!(rest, "{error}");
     size.saturating_sub(rest.len())
+}
+
+// A hexadecimal digit, in lower case.
+fn digit(d: u8) -> u8
+    requires { d < 16 }
+    ensures { result ≡ digit_glyph false d }
+{
+    if d < 10 { b'0' + d } else { b'a' + (d - 10) }
 }
 
 // How many arguments the program was started with, its own name among them, counted up to so many.
