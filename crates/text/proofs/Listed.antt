@@ -1,10 +1,10 @@
 -- A text in a buffer, cut where the buffer is full: one text behind another is their concatenation, cut at the same place.
 use mathlib.Core.Path.{◌≡◌, refl, sym, ap, ◌∙◌}
-use mathlib.Core.List.{List, [], ◌++◌, append-nil}
-use Prim.Native.Nat.{ℕ, ◌+◌, ◌-◌, ◌≤◌, min}
+use mathlib.Core.List.{List, [], ◌∷◌, ◌++◌, append-nil}
+use Prim.Native.Nat.{ℕ, ◌+◌, ◌-◌, ◌≤◌, ◌<◌, min}
 use native.Mathlib.Decide.{dec_le}
 use native.Mathlib.Omega.{arith}
-use lib.ListN.{length, take, drop, length-append, length-take, length-drop}
+use lib.ListN.{length, take, drop, set, length-append, length-take, length-drop}
 use lib.Seq.{take_all, take-append-le, take-append-add, length-take-le}
 use borrow.Rule.Slice.PartMut.{mid_of, put_mid}
 use Rattle.fields.specs.Bytes.{over, Wrote}
@@ -62,7 +62,19 @@ listed_next a b xs ys zs n m p q =
 pub listed_whole : (t xs ys : List ℕ) (n : ℕ) → Listed t xs ys n → length t ≤ length xs → Wrote t xs ys n
 listed_whole t xs ys n p h = rw (take_all (length xs) t h) at p.wrote
 
--- ---- a copy
+-- ---- one byte, and a copy
+
+-- no room
+pub listed_full : (t xs : List ℕ) → length xs ≡ 0 → Listed t xs xs 0
+unfolding over
+listed_full t xs h = listed t xs xs 0 (rw h (record { bytes = refl; size = refl }))
+
+-- one byte at the front
+pub listed_byte : (b : ℕ) (xs : List ℕ) → 0 < length xs → Listed (b ∷ []) xs (set xs 0 b) 1
+unfolding over
+listed_byte b [] h = absurd (omega arith)
+listed_byte b (x ∷ xs) h =
+    listed (b ∷ []) (x ∷ xs) (b ∷ xs) 1 (rw (take_all (length (x ∷ xs)) (b ∷ []) (omega arith)) (record { bytes = refl; size = refl }))
 
 -- as much of ws at the front as there is, or as there is room for
 pub listed_copy : (ws xs : List ℕ) (n : ℕ) → n ≡ min (length ws) (length xs) → Listed ws xs (take n ws ++ drop n xs) n

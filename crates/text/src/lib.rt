@@ -32,7 +32,11 @@ fn write_words(text: &mut [u8], words: &[u8]) -> usize
 fn write_byte(text: &mut [u8], b: u8) -> usize
     ensures { Listed (b ∷ []) text.old text.new result }
 {
-    write_words(text, &[b])
+    if text.len() == 0 {
+        return 0;
+    }
+    text[0] = b;
+    1
 }
 
 // A number in decimal: its tenth, then its last digit.
