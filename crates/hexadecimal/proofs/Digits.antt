@@ -67,12 +67,12 @@ module _ (digits xs ys : List ℕ) (n k : ℕ) (i : Stored digits xs ys n k) whe
           ∙ sym (take_all (length xs) (bytes_of digits) (omega (arith, bytes_length digits)))
       go (no l) = let e : k ≡ length xs = omega (arith, i.count) in ap (λ j. take j (bytes_of digits)) e
 
-  -- all that are due are stored
-  pub stored_all : k ≡ n → Unhexed digits xs ys n
-  stored_all e =
+  -- all that are due are stored, and m is how many they are
+  pub stored_all : (m : ℕ) → k ≡ n → m ≡ n → Unhexed digits xs ys m
+  stored_all m e h =
       let size = length-take-le k (bytes_of digits) (omega (arith, e, i.count, bytes_length digits)) in
-      record {
+      rw h (record {
         bytes = i.bytes ∙ ap₂ (λ front j. front ++ drop j xs) (stored_cut e) (zero-add k ∙ e);
         size = sym e ∙ sym size ∙ ap length (stored_cut e);
         counts = prefix_len_of_le _ _ (omega (arith, i.count, i.same));
-      }
+      })

@@ -7,4 +7,4 @@ pub loop-k-preserved : goal.loop-k-preserved
 loop-k-preserved c = stored_next _ _ _ _ _ c.loop-k.invariant _ c.loop-k-test.true c.pair.ensures
 
 pub returns : goal.returns
-returns c = stored_all _ _ _ _ _ c.loop-k.invariant (omega (arith, c.loop-k.auto.k-end, c.loop-k-test.false))
+returns c = stored_all _ _ _ _ _ c.loop-k.invariant _ (omega (arith, c.loop-k.auto.k-end, c.loop-k-test.false)) (omega arith)
