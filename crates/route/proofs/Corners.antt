@@ -19,7 +19,6 @@ use Rattle.network.proofs.Lists.{all_map, all_imp}
 use Rattle.network.proofs.Lanes.{at_fits, point_path}
 use Rattle.network.proofs.Moved.{rising_keeps, pits_kept}
 use Rattle.route.specs.Route.{Route, steps_of, columns_of, rows_of, drawn_of, OnGrid, numbered, indexed, corners_of, placed, Tables}
-use Rattle.route.specs.declared.Heading.TheVariants.{Standing}
 use Rattle.route.specs.Walker.{standing}
 use Rattle.route.specs.Marked.{touched}
 use Rattle.route.proofs.Lists.{map_cong}
@@ -32,25 +31,25 @@ use Rattle.route.proofs.Touched.{touches, touched_way}
 module _ (g : Grid) (r : Route) (o : OnGrid g r) (m : Point → Point)
     (same : (i j : ℕ) → i ≤ extent (columns_of r) → j ≤ extent (rows_of r) → m (vertex_at r i j) ≡ spot g (columns_of r) (rows_of r) i j) where
   -- they are the corners of the route there
-  mapped_turns : map m (turns (vertex_at r) 0 0 Standing (steps_of r)) ≡ corners (drawn_of g r)
+  mapped_turns : map m (turns (vertex_at r) 0 0 2 (steps_of r)) ≡ corners (drawn_of g r)
   mapped_turns =
       let p = columns_extent r in
       let q = rows_extent r in
-      turns_map (vertex_at r) (spot g (columns_of r) (rows_of r)) m (extent (columns_of r)) (extent (rows_of r)) same 0 0 Standing (steps_of r) (omega arith) (omega arith)
+      turns_map (vertex_at r) (spot g (columns_of r) (rows_of r)) m (extent (columns_of r)) (extent (rows_of r)) same 0 0 2 (steps_of r) (omega arith) (omega arith)
       ∙ sym (corners_turns g (columns_of r) (rows_of r) o.columns_fit o.rows_fit (steps_of r) (omega arith) (omega arith))
 
 -- the corners in line indexes
-turns_corners : (r : Route) → OnGrid numbered r → turns (vertex_at r) 0 0 Standing (steps_of r) ≡ corners_of r
+turns_corners : (r : Route) → OnGrid numbered r → turns (vertex_at r) 0 0 2 (steps_of r) ≡ corners_of r
 unfolding corners_of indexed
 turns_corners r o =
-    sym (map-id (turns (vertex_at r) 0 0 Standing (steps_of r)))
+    sym (map-id (turns (vertex_at r) 0 0 2 (steps_of r)))
     ∙ mapped_turns numbered r o (λ p. p)
     (λ i j p q. sym (point_path
     (below_at 64 (at (columns_of r) i) (omega (arith, at_fits numbered.columns (columns_of r) o.columns_fit i p, length_below 64)))
     (below_at 64 (at (rows_of r) j) (omega (arith, at_fits numbered.rows (rows_of r) o.rows_fit j q, length_below 64)))))
 
 -- what is ahead of the walker that has not moved is the whole trail
-start_trail : (r : Route) → OnGrid numbered r → visits r (standing r.start) ≡ trail (vertex_at r) 0 0 Standing (steps_of r)
+start_trail : (r : Route) → OnGrid numbered r → visits r (standing r.start) ≡ trail (vertex_at r) 0 0 2 (steps_of r)
 unfolding visits steps
 start_trail r o = visits_trail (r.count - 0) r (standing r.start) (on_start r o) (omega arith)
 
@@ -69,7 +68,7 @@ visits_touched r o d p =
 
 -- a route on at most 64 columns and 64 rows has at most 127 corners
 pub corners_few : (r : Route) → OnGrid numbered r → length (corners_of r) ≤ 127
-corners_few r o = rw (← turns_corners r o) (omega (arith, turns_length (vertex_at r) 0 0 Standing (steps_of r), few_steps r o))
+corners_few r o = rw (← turns_corners r o) (omega (arith, turns_length (vertex_at r) 0 0 2 (steps_of r), few_steps r o))
 
 -- what holds of all vertices of a route holds of its corners
 corners_all : (P : Point → Type 0) (r : Route) → OnGrid numbered r
@@ -77,7 +76,7 @@ corners_all : (P : Point → Type 0) (r : Route) → OnGrid numbered r
 corners_all P r o holds =
     let p = columns_extent r in
     let q = rows_extent r in
-    rw (← turns_corners r o) (turns_all P (vertex_at r) (extent (columns_of r)) (extent (rows_of r)) holds 0 0 Standing (steps_of r) (omega arith) (omega arith))
+    rw (← turns_corners r o) (turns_all P (vertex_at r) (extent (columns_of r)) (extent (rows_of r)) holds 0 0 2 (steps_of r) (omega arith) (omega arith))
 
 -- they are vertices of each grid of indexes that the route is on
 corners_vertices : (width height : ℕ) (r : Route) → OnGrid numbered r → OnGrid (indexed width height) r → All (Vertex (indexed width height)) (corners_of r)

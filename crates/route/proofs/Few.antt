@@ -13,7 +13,6 @@ use Rattle.network.proofs.Counting.{route_frame}
 use Rattle.network.proofs.StepCounts.{steps_all}
 use Rattle.network.proofs.Corners.{TwoPoints}
 use Rattle.network.proofs.Turns.{to_turns}
-use Rattle.route.specs.declared.Heading.TheVariants.{Standing}
 use Rattle.route.proofs.Lanes.{fits_few}
 use Rattle.route.proofs.Turns.{turns_length, corners_turns}
 
@@ -30,7 +29,7 @@ framed_few g run route two m =
       omega (
         arith,
         ap length (sym t.same ∙ corners_turns g X Y f.columns_fit f.rows_fit t.list (omega (arith, c.all_columns)) (omega (arith, c.all_rows))),
-        turns_length (spot g X Y) 0 0 Standing t.list,
+        turns_length (spot g X Y) 0 0 2 t.list,
         steps_all t.list,
         c.all_columns,
         c.all_rows,

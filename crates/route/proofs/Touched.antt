@@ -17,7 +17,6 @@ use Rattle.network.specs.Pits.{amid, passes_row, passes_column}
 use Rattle.network.proofs.Tests.{same_test, eqb_same, or_split, or_join, is_false}
 use Rattle.network.proofs.Numbers.{order}
 use Rattle.network.proofs.Pits.{Amid, amid_true, true_amid}
-use Rattle.route.specs.declared.Heading.TheVariants.{Standing, Row, Column}
 use Rattle.route.specs.Walker.{heading_of}
 use Rattle.route.specs.Marked.{along}
 use Rattle.route.proofs.Turns.{Visit, trail, turns, origin, Behind}
@@ -181,11 +180,11 @@ module _ (columns rows : List ℕ) (X Y : Lane) (fx : Fits columns X) (fy : Fits
     touched_from [] d k i j b m n = at_end (same_point p (spot_at i j)) (passes e p (before d k i j to spot_at i j))
     touched_from (hor ∷ s) hor k i j b m n =
         touched_from s hor k (suc i) j (omega arith) (omega arith) (omega arith)
-        ∙ ap (λ t. t || any (touches e p) (trail spot_at (suc i) j Row s)) (passes_on hor k i j b (omega arith))
+        ∙ ap (λ t. t || any (touches e p) (trail spot_at (suc i) j 0 s)) (passes_on hor k i j b (omega arith))
         ∙ or_assoc (passes e p (spot_at k j to spot_at i j)) _ _
     touched_from (ver ∷ s) ver k i j b m n =
         touched_from s ver k i (suc j) (omega arith) (omega arith) (omega arith)
-        ∙ ap (λ t. t || any (touches e p) (trail spot_at i (suc j) Column s)) (passes_on ver k i j b (omega arith))
+        ∙ ap (λ t. t || any (touches e p) (trail spot_at i (suc j) 1 s)) (passes_on ver k i j b (omega arith))
         ∙ or_assoc (passes e p (spot_at i k to spot_at i j)) _ _
     touched_from (ver ∷ s) hor k i j b m n =
         at_turn (same_point p (spot_at i j)) (passes e p (spot_at k j to spot_at i j)) _ _ _
@@ -196,7 +195,7 @@ module _ (columns rows : List ℕ) (X Y : Lane) (fx : Fits columns X) (fy : Fits
 
     -- The vertices of the way that are touched are those of its corners' pieces.
     pub touched_way : (s : List Dir) → steps hor s ≤ extent X → steps ver s ≤ extent Y
-        → among p (turns spot_at 0 0 Standing s) || any (passes e p) (pieces (turns spot_at 0 0 Standing s)) ≡ any (touches e p) (trail spot_at 0 0 Standing s)
+        → among p (turns spot_at 0 0 2 s) || any (passes e p) (pieces (turns spot_at 0 0 2 s)) ≡ any (touches e p) (trail spot_at 0 0 2 s)
     unfolding steps
     touched_way [] m n = at_end (same_point p (spot_at 0 0)) false
     touched_way (hor ∷ s) m n =

@@ -15,9 +15,7 @@ use Rattle.network.specs.Steps.{Dir, hor, ver, steps, Lane, extent, at, Fits, sp
 use Rattle.network.specs.Corners.{straight_on, corners_from, corners}
 use Rattle.network.proofs.Corners.{corner_on, corner_at}
 use Rattle.network.proofs.Lanes.{lane_apart}
-use Rattle.route.specs.declared.Heading.{Heading}
-use Rattle.route.specs.declared.Heading.TheVariants.{Standing, Row, Column}
-use Rattle.route.specs.Walker.{heading_of, same_heading}
+use Rattle.route.specs.Walker.{heading_of}
 
 -- a vertex that is passed: it stands in front of the list where the way turns there
 abbrev pub passing : Bool → Point → List Point → List Point
@@ -28,7 +26,7 @@ passing false p l = l
 pub record Visit : Type 0 where
   pub spot : Point
   pub corner : Bool
-  pub heading : Heading
+  pub heading : ℕ
 
 -- the corners among the vertices of a way
 abbrev pub bends : List Visit → List Point
@@ -36,13 +34,13 @@ bends [] = []
 bends (v ∷ l) = passing v.corner v.spot (bends l)
 
 -- the vertices from column i and row j on, reached with a heading, on the steps of a list; f gives the vertices
-abbrev pub trail : (ℕ → ℕ → Point) → ℕ → ℕ → Heading → List Dir → List Visit
+abbrev pub trail : (ℕ → ℕ → Point) → ℕ → ℕ → ℕ → List Dir → List Visit
 trail f i j h [] = record { spot = f i j; corner = true; heading = h } ∷ []
-trail f i j h (hor ∷ s) = record { spot = f i j; corner = not (same_heading Row h); heading = Row } ∷ trail f (suc i) j Row s
-trail f i j h (ver ∷ s) = record { spot = f i j; corner = not (same_heading Column h); heading = Column } ∷ trail f i (suc j) Column s
+trail f i j h (hor ∷ s) = record { spot = f i j; corner = not (eqb 0 h); heading = 0 } ∷ trail f (suc i) j 0 s
+trail f i j h (ver ∷ s) = record { spot = f i j; corner = not (eqb 1 h); heading = 1 } ∷ trail f i (suc j) 1 s
 
 -- the corners among them
-abbrev pub turns : (ℕ → ℕ → Point) → ℕ → ℕ → Heading → List Dir → List Point
+abbrev pub turns : (ℕ → ℕ → Point) → ℕ → ℕ → ℕ → List Dir → List Point
 turns f i j h s = bends (trail f i j h s)
 
 -- a vertex that is passed is one corner at most
@@ -51,10 +49,10 @@ passing_length true p l = omega arith
 passing_length false p l = omega arith
 
 -- a corner for each step at most, and the last
-pub turns_length : (f : ℕ → ℕ → Point) (i j : ℕ) (h : Heading) (s : List Dir) → length (turns f i j h s) ≤ suc (length s)
+pub turns_length : (f : ℕ → ℕ → Point) (i j h : ℕ) (s : List Dir) → length (turns f i j h s) ≤ suc (length s)
 turns_length f i j h [] = omega arith
-turns_length f i j h (hor ∷ s) = omega (arith, turns_length f (suc i) j Row s, passing_length (not (same_heading Row h)) (f i j) (turns f (suc i) j Row s))
-turns_length f i j h (ver ∷ s) = omega (arith, turns_length f i (suc j) Column s, passing_length (not (same_heading Column h)) (f i j) (turns f i (suc j) Column s))
+turns_length f i j h (hor ∷ s) = omega (arith, turns_length f (suc i) j 0 s, passing_length (not (eqb 0 h)) (f i j) (turns f (suc i) j 0 s))
+turns_length f i j h (ver ∷ s) = omega (arith, turns_length f i (suc j) 1 s, passing_length (not (eqb 1 h)) (f i j) (turns f i (suc j) 1 s))
 
 -- they are vertices of the way
 module _ (P : Point → Type 0) (f : ℕ → ℕ → Point) (I J : ℕ) (holds : (i j : ℕ) → i ≤ I → j ≤ J → P (f i j)) where
@@ -64,13 +62,13 @@ module _ (P : Point → Type 0) (f : ℕ → ℕ → Point) (I J : ℕ) (holds :
   passing_all false i j p q l a = a
 
   -- so all are
-  pub turns_all : (i j : ℕ) (h : Heading) (s : List Dir) → i + steps hor s ≤ I → j + steps ver s ≤ J → All P (turns f i j h s)
+  pub turns_all : (i j h : ℕ) (s : List Dir) → i + steps hor s ≤ I → j + steps ver s ≤ J → All P (turns f i j h s)
   unfolding steps
   turns_all i j h [] p q = (holds i j (omega arith) (omega arith), tt)
   turns_all i j h (hor ∷ s) p q =
-      passing_all (not (same_heading Row h)) i j (omega arith) (omega arith) (turns f (suc i) j Row s) (turns_all (suc i) j Row s (omega arith) (omega arith))
+      passing_all (not (eqb 0 h)) i j (omega arith) (omega arith) (turns f (suc i) j 0 s) (turns_all (suc i) j 0 s (omega arith) (omega arith))
   turns_all i j h (ver ∷ s) p q =
-      passing_all (not (same_heading Column h)) i j (omega arith) (omega arith) (turns f i (suc j) Column s) (turns_all i (suc j) Column s (omega arith) (omega arith))
+      passing_all (not (eqb 1 h)) i j (omega arith) (omega arith) (turns f i (suc j) 1 s) (turns_all i (suc j) 1 s (omega arith) (omega arith))
 
 -- the same steps turn at the same vertices, wherever these are
 module _ (f g : ℕ → ℕ → Point) (m : Point → Point) (I J : ℕ) (same : (i j : ℕ) → i ≤ I → j ≤ J → m (f i j) ≡ g i j) where
@@ -80,15 +78,15 @@ module _ (f g : ℕ → ℕ → Point) (m : Point → Point) (I J : ℕ) (same :
   passing_map false i j p q l k e = e
 
   -- all of them
-  pub turns_map : (i j : ℕ) (h : Heading) (s : List Dir) → i + steps hor s ≤ I → j + steps ver s ≤ J → map m (turns f i j h s) ≡ turns g i j h s
+  pub turns_map : (i j h : ℕ) (s : List Dir) → i + steps hor s ≤ I → j + steps ver s ≤ J → map m (turns f i j h s) ≡ turns g i j h s
   unfolding steps
   turns_map i j h [] p q = cc (same i j (omega arith) (omega arith))
   turns_map i j h (hor ∷ s) p q =
-      passing_map (not (same_heading Row h)) i j (omega arith) (omega arith) (turns f (suc i) j Row s) (turns g (suc i) j Row s)
-      (turns_map (suc i) j Row s (omega arith) (omega arith))
+      passing_map (not (eqb 0 h)) i j (omega arith) (omega arith) (turns f (suc i) j 0 s) (turns g (suc i) j 0 s)
+      (turns_map (suc i) j 0 s (omega arith) (omega arith))
   turns_map i j h (ver ∷ s) p q =
-      passing_map (not (same_heading Column h)) i j (omega arith) (omega arith) (turns f i (suc j) Column s) (turns g i (suc j) Column s)
-      (turns_map i (suc j) Column s (omega arith) (omega arith))
+      passing_map (not (eqb 1 h)) i j (omega arith) (omega arith) (turns f i (suc j) 1 s) (turns g i (suc j) 1 s)
+      (turns_map i (suc j) 1 s (omega arith) (omega arith))
 
 -- ---- the corners of a drawn route
 
@@ -152,7 +150,7 @@ module _ (g : Grid) (X Y : Lane) (fx : Fits g.columns X) (fy : Fits g.rows Y) wh
       corner_on _ _ _ (draw_from g X Y i (suc j) s) (on_column k i j) ∙ turns_from s ver k i (suc j) (omega arith) (omega arith) (omega arith)
 
   -- The corners of the route that a step list draws are its turns; a walk that stands still, with no heading, turns at its first step.
-  pub corners_turns : (s : List Dir) → steps hor s ≤ extent X → steps ver s ≤ extent Y → corners (drawn g X Y s) ≡ turns (spot g X Y) 0 0 Standing s
+  pub corners_turns : (s : List Dir) → steps hor s ≤ extent X → steps ver s ≤ extent Y → corners (drawn g X Y s) ≡ turns (spot g X Y) 0 0 2 s
   unfolding steps
   corners_turns [] p q = refl
   corners_turns (hor ∷ s) p q = ap (λ l. spot g X Y 0 0 ∷ l) (turns_from s hor 0 1 0 (omega arith) (omega arith) (omega arith))

@@ -8,6 +8,7 @@ use Prim.Native.Nat.{ℕ, zero, suc, ◌+◌, ◌-◌, ◌≤◌, ◌<◌}
 use native.Mathlib.Omega.{arith}
 use lib.ListN.{length, get_or, take, drop, length-map, get_or-map, drop_of_length-le}
 use lib.Seq.{take-suc, drop-cons, get_or-take, length-take-le}
+use lib.Dec.{eqb}
 use Rattle.network.specs.Plane.{Point}
 use Rattle.network.specs.Steps.{Dir, hor, ver, steps, at}
 use Rattle.network.specs.Graph.{below}
@@ -15,7 +16,7 @@ use Rattle.route.specs.declared.Walker.{Walker}
 use Rattle.route.specs.declared.Stepped.{Stepped}
 use Rattle.route.specs.Route.{Route, dir_of, steps_of, columns_of, rows_of, OnGrid, numbered, indexed}
 use Rattle.network.specs.Entries.{length_below}
-use Rattle.route.specs.Walker.{heading_of, same_heading, ahead, standing, next_of, stepped, Free}
+use Rattle.route.specs.Walker.{heading_of, ahead, standing, next_of, stepped, Free}
 use Rattle.route.specs.Marked.{indexes_of}
 use Rattle.network.proofs.StepCounts.{steps_take, steps_all, step_along, step_across}
 use Rattle.route.proofs.Lanes.{fits_few, columns_extent, rows_extent, lane_start, lane_following, lane_in, lane_room}
@@ -94,26 +95,26 @@ module _ (r : Route) (w : Walker) (o : On r w) where
 
   module _ (h : w.at < r.count) where
     -- its next step leads to a line of the grid
-    pub can_step : Free r.right r.up (heading_of (next_of r w)) w.here
+    pub can_step : Free r.right r.up (next_of r w) w.here
     unfolding indexed
     can_step = go (next_of r w) (taken_next r o.grid.held w.at h)
       where
         before : (d : Dir) → take (suc w.at) (steps_of r) ≡ take w.at (steps_of r) ++ d ∷ [] → taken d r w < steps d (steps_of r)
         before d e = omega (arith, ap (steps d) e, step_along d (take w.at (steps_of r)), steps_take d (suc w.at) (steps_of r))
 
-        go : (d : Dir) → take (suc w.at) (steps_of r) ≡ take w.at (steps_of r) ++ d ∷ [] → Free r.right r.up (heading_of d) w.here
+        go : (d : Dir) → take (suc w.at) (steps_of r) ≡ take w.at (steps_of r) ++ d ∷ [] → Free r.right r.up d w.here
         go hor e = rw o.column (lane_room r.right _ _ _ o.grid.columns_fit (before hor e))
         go ver e = rw o.row (lane_room r.up _ _ _ o.grid.rows_fit (before ver e))
 
     -- it leads to the vertex that the walker is said to be at
     next_column_lem : (d : Dir) → take (suc w.at) (steps_of r) ≡ take w.at (steps_of r) ++ d ∷ []
-        → (ahead r.right r.up (heading_of d) w.here).column ≡ at (columns_of r) (steps hor (take (suc w.at) (steps_of r)))
+        → (ahead r.right r.up d w.here).column ≡ at (columns_of r) (steps hor (take (suc w.at) (steps_of r)))
     next_column_lem hor e = rw (e, step_along hor (take w.at (steps_of r)), o.column) (sym (lane_following r.right _ _ _))
     next_column_lem ver e = rw (e, step_across hor (take w.at (steps_of r)), o.column)
 
     -- in its row
     next_row_lem : (d : Dir) → take (suc w.at) (steps_of r) ≡ take w.at (steps_of r) ++ d ∷ []
-        → (ahead r.right r.up (heading_of d) w.here).row ≡ at (rows_of r) (steps ver (take (suc w.at) (steps_of r)))
+        → (ahead r.right r.up d w.here).row ≡ at (rows_of r) (steps ver (take (suc w.at) (steps_of r)))
     next_row_lem hor e = rw (e, step_across ver (take w.at (steps_of r)), o.row)
     next_row_lem ver e = rw (e, step_along ver (take w.at (steps_of r)), o.row) (sym (lane_following r.up _ _ _))
 
@@ -216,7 +217,7 @@ visits_trail (suc n) r w o h =
     go : (d : Dir) → take (suc w.at) (steps_of r) ≡ take w.at (steps_of r) ++ d ∷ [] → drop w.at (steps_of r) ≡ d ∷ drop (suc w.at) (steps_of r)
         → (l : List Visit)
         → l ≡ trail (vertex_at r) (steps hor (take (suc w.at) (steps_of r))) (steps ver (take (suc w.at) (steps_of r))) (heading_of d) (drop (suc w.at) (steps_of r))
-        → record { spot = indexes_of w.here; corner = not (same_heading (heading_of d) w.heading); heading = heading_of d } ∷ l
+        → record { spot = indexes_of w.here; corner = not (eqb (heading_of d) w.heading); heading = heading_of d } ∷ l
         ≡ trail (vertex_at r) (taken hor r w) (taken ver r w) w.heading (drop w.at (steps_of r))
     go hor t e l ih =
         rw (e, here_at r w o, ih, t, step_along hor (take w.at (steps_of r)), step_across ver (take w.at (steps_of r)))

@@ -1,14 +1,12 @@
 -- Marks that find pits: a byte for each vertex of a grid of indexes, row by row, of two binary digits. The lower is set where a route turns, ends
 -- or passes along the row, the upper where one turns, ends or passes along the column. At a pit both are.
-use Rattle.std.specs.Prelude.{◌≡◌, Bool, true, false, cond, ◌&&◌, ◌||◌, List, [], ◌∷◌, ℕ, ◌+◌, ◌*◌, ◌≤◌, ◌<◌, length, get_or, eqb}
+use Rattle.std.specs.Prelude.{◌≡◌, Bool, cond, ◌&&◌, ◌||◌, List, [], ◌∷◌, ℕ, ◌+◌, ◌*◌, ◌≤◌, ◌<◌, length, get_or, eqb}
 use Rattle.network.specs.Lists.{any, count, each}
 use Rattle.network.specs.Plane.{Point, same_point}
 use Rattle.network.specs.Route.{Route as Points, pieces}
 use Rattle.network.specs.Steps.{Dir, hor, ver}
 use Rattle.network.specs.Passes.{among, passes}
 use Rattle.route.specs.declared.Vertex.{Vertex}
-use Rattle.route.specs.declared.Heading.{Heading}
-use Rattle.route.specs.declared.Heading.TheVariants.{Standing, Row, Column}
 
 -- a vertex as a point of the grid of indexes
 abbrev pub indexes_of : Vertex → Point
@@ -40,17 +38,13 @@ pub record Counted (width height : ℕ) (ms ns : List ℕ) (added : Dir → Poin
   pub marked : (set : Dir → Point → Bool) → Marked width height ms set → Marked width height ns (λ d p. set d p || added d p)
   pub new : (set : Dir → Point → Bool) → Marked width height ms set → full width height ns ≡ full width height ms + n
 
--- a heading goes along a direction
-abbrev pub along : Dir → Heading → Bool
-along hor Standing = false
-along hor Row = true
-along hor Column = false
-along ver Standing = false
-along ver Row = false
-along ver Column = true
+-- a heading is the number of a direction: 0 goes along the row, 1 along the column, and any other along neither
+abbrev pub along : Dir → ℕ → Bool
+along hor heading = eqb heading 0
+along ver heading = eqb heading 1
 
 -- a route that turns or ends at v sets both digits there, one that goes straight on sets that of its direction
-abbrev pub visited : Vertex → Bool → Heading → Dir → Point → Bool
+abbrev pub visited : Vertex → Bool → ℕ → Dir → Point → Bool
 visited v corner heading d p = same_point p (indexes_of v) && (corner || along d heading)
 
 -- the digits of a route that is given by its corners

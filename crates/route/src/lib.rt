@@ -30,21 +30,12 @@ pub struct Track {
     pub up: bool,
 }
 
-// Where a step goes: along the row, or along the column. A walker that has not moved stands; no step does, so that the first step turns: a
-// route's start is a corner.
-#[derive(Clone, Copy, PartialEq)]
-pub enum Heading {
-    Standing,
-    Row,
-    Column,
-}
-
 // A place on a route: the index of the next step, the vertex, and the heading of the step that led there.
 #[derive(Clone, Copy)]
 pub struct Walker {
     pub at: usize,
     pub here: Vertex,
-    pub heading: Heading,
+    pub heading: u8,
 }
 
 // The walker after a step, and whether the step turned at the vertex that it left.
@@ -77,14 +68,13 @@ pub fn track_of(x1: u32, y1: u32, x2: u32, y2: u32) -> Track
     }
 }
 
-fn heading_of(step: u8) -> Heading
+// The heading of a walker that has not moved. No step has it, so that the first step turns: a route's start is a corner.
+const STANDING: u8 = 2;
+
+fn heading_of(step: u8) -> u8
     ensures { result ≡ heading_of (dir_of step) }
 {
-    if step == 0 {
-        Heading::Row
-    } else {
-        Heading::Column
-    }
+    if step == 0 { 0 } else { 1 }
 }
 
 fn following(line: usize, rises: bool) -> usize
@@ -94,20 +84,20 @@ fn following(line: usize, rises: bool) -> usize
     if rises { line + 1 } else { line - 1 }
 }
 
-fn ahead(track: Track, heading: Heading, v: Vertex) -> Vertex
-    requires { Free track.right track.up heading v }
-    ensures { result ≡ ahead track.right track.up heading v }
+fn ahead(track: Track, step: u8, v: Vertex) -> Vertex
+    requires { Free track.right track.up (dir_of step) v }
+    ensures { result ≡ ahead track.right track.up (dir_of step) v }
 {
-    match heading {
-        Heading::Standing => v,
-        Heading::Row => Vertex {
+    if step == 0 {
+        Vertex {
             column: following(v.column, track.right),
             ..v
-        },
-        Heading::Column => Vertex {
+        }
+    } else {
+        Vertex {
             row: following(v.row, track.up),
             ..v
-        },
+        }
     }
 }
 
@@ -118,17 +108,18 @@ impl Walker {
         Walker {
             at: 0,
             here: track.start,
-            heading: Heading::Standing,
+            heading: STANDING,
         }
     }
 
     pub fn step(self, track: Track, steps: &[u8]) -> Stepped
         requires { (self.at < length steps.now)
-            × Free track.right track.up (heading_of (dir_of (get_or steps.now self.at 0))) self.here }
+            × Free track.right track.up (dir_of (get_or steps.now self.at 0)) self.here }
         ensures { result ≡ stepped (route_by steps.now track) self }
     {
-        let heading = heading_of(steps[self.at]);
-        let here = ahead(track, heading, self.here);
+        let step = steps[self.at];
+        let heading = heading_of(step);
+        let here = ahead(track, step, self.here);
         Stepped {
             walker: Walker {
                 at: self.at + 1,
@@ -148,21 +139,21 @@ const COLUMN: u8 = 2;
 const PIT: u8 = 3;
 
 // The digits of a vertex at which a route turns or ends, or else goes straight on with a heading.
-fn digits_of(corner: bool, heading: Heading) -> u8
+fn digits_of(corner: bool, heading: u8) -> u8
     ensures { result ≡ digits (corner || along hor heading) (corner || along ver heading) }
 {
     if corner {
         return PIT;
     }
     match heading {
-        Heading::Standing => 0,
-        Heading::Row => ROW,
-        Heading::Column => COLUMN,
+        0 => ROW,
+        1 => COLUMN,
+        _ => 0,
     }
 }
 
 // Marks a vertex of a route, and gives the pits that came: one if it is a pit only now. A row has `width` marks.
-fn mark(marks: &mut [u8], width: usize, v: Vertex, corner: bool, heading: Heading) -> usize
+fn mark(marks: &mut [u8], width: usize, v: Vertex, corner: bool, heading: u8) -> usize
     requires { (v.column < width) × (v.row * width + v.column < length marks.old) }
     ensures { ((height : ℕ) → v.row < height
         → Counted width height marks.old marks.new (visited v corner heading) result) × (result ≤ 1) }
