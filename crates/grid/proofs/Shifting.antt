@@ -1,12 +1,12 @@
 -- Insertion into an array: the lines from the value's place on go one place further.
-use mathlib.Core.Path.{◌≡◌, sym, ap, ap₂, ◌∙◌, subst}
+use mathlib.Core.Path.{◌≡◌, refl, sym, ap, ap₂, ◌∙◌, subst}
 use mathlib.Core.List.{List, [], ◌∷◌, ◌++◌, append_assoc, append-nil}
-use Prim.Native.Nat.{ℕ, suc, ◌+◌, ◌-◌, ◌≤◌, ◌<◌}
+use Prim.Native.Nat.{ℕ, zero, suc, ◌+◌, ◌-◌, ◌≤◌, ◌<◌}
 use native.Mathlib.Nat.{le_refl, lt_of_not-le}
 use native.Mathlib.Numerals.{add-one}
 use native.Mathlib.Omega.{arith}
-use lib.ListN.{length, get_or, get_or-append, take, drop, set, replicate, length-append, length-take, length-drop}
-use lib.Seq.{length-take-le, take-suc, take-length, drop-length, drop-cons, append_snoc, get_or_at, take-append_seam, take-append-le, drop-append_seam, drop-append-le, drop-append-add, set_at, get_or-take, get_or-set_other, set-set}
+use lib.ListN.{length, get_or, get_or-append, take, drop, take-append-drop, set, replicate, length-append, length-take, length-drop}
+use lib.Seq.{take_at, drop_at, length-take-le, take-suc, take-length, drop-length, drop-cons, append_snoc, get_or_at, take-append_seam, take-append-le, drop-append_seam, drop-append-le, set_at, get_or-take, get_or-set_other, set-set}
 use Rattle.network.specs.Distinct.{insert}
 use Rattle.grid.specs.declared.Axis.{Axis}
 use Rattle.grid.specs.Tables.{padded}
@@ -52,6 +52,70 @@ pub shifted_on : (m : List ℕ) (v : ℕ) (t : List ℕ) (i : ℕ) → Shifted m
 shifted_on m v t i s h =
     let e : i ≡ suc (i - 1) = omega arith in
     subst (λ (j : ℕ). Shifted m v (set t j (get_or t (i - 1) 0)) (i - 1)) (sym e) (shifted_suc m v t (i - 1) (subst (Shifted m v t) e s))
+
+-- ---- one place further, all of them in one move, as one by one from the last
+
+-- the numbers of t, but j of them from place k on are copied one place further
+abbrev moved : List ℕ → ℕ → ℕ → List ℕ
+moved t k j = take (suc k) t ++ take j (drop k t) ++ drop (suc (k + j)) t
+
+-- none of them
+moved_none : (t : List ℕ) (k : ℕ) → moved t k 0 ≡ t
+moved_none t k =
+    let e : suc (k + 0) ≡ suc k = omega arith in
+    ap₂ (λ (x : List ℕ) (i : ℕ). x ++ drop i t) (append-nil (take (suc k) t)) e ∙ take-append-drop (suc k) t
+
+-- one more: the number before those that were moved is carried to the place behind its own
+moved_suc : (t : List ℕ) (k j : ℕ) → suc k < length t → set (moved t (suc k) j) (suc k) (get_or (moved t (suc k) j) k 0) ≡ moved t k (suc j)
+moved_suc t k j h =
+    ap₂ (λ (x : List ℕ) (v : ℕ). set x (suc k) v) there same
+    ∙ set_at (take (suc k) t) (get_or t (suc k) 0) rest (get_or t k 0) (suc k) (length-take-le (suc k) t (omega arith))
+    ∙ ap (λ (x : List ℕ). take (suc k) t ++ (take (suc j) x ++ drop (suc (suc k + j)) t)) (sym (drop-cons t k 0 (omega arith)))
+    ∙ ap (λ (i : ℕ). take (suc k) t ++ (take (suc j) (drop k t) ++ drop i t)) e
+    ∙ sym (append_assoc (take (suc k) t) (take (suc j) (drop k t)) (drop (suc (k + suc j)) t))
+  where
+    rest : List ℕ
+    rest = take j (drop (suc k) t) ++ drop (suc (suc k + j)) t
+
+    e : suc (suc k + j) ≡ suc (k + suc j)
+    e = omega arith
+
+    whole : moved t (suc k) j ≡ take (suc (suc k)) t ++ rest
+    whole = append_assoc (take (suc (suc k)) t) (take j (drop (suc k) t)) (drop (suc (suc k + j)) t)
+
+    there : moved t (suc k) j ≡ take (suc k) t ++ get_or t (suc k) 0 ∷ rest
+    there = whole ∙ ap (λ (x : List ℕ). x ++ rest) (take-suc t (suc k) 0 h) ∙ append_snoc (take (suc k) t) (get_or t (suc k) 0) rest
+
+    same : get_or (moved t (suc k) j) k 0 ≡ get_or t k 0
+    same =
+        ap (λ (x : List ℕ). get_or x k 0) whole
+        ∙ get_or-append (take (suc (suc k)) t) rest 0 k (omega (arith, length-take-le (suc (suc k)) t h))
+        ∙ get_or-take (suc (suc k)) t k 0 (omega arith)
+
+module _ (l : List ℕ) (v : ℕ) (h : length l < 64) where
+  -- a value behind all lines needs no shift
+  first_shifted : Shifted (padded 63 l) v (padded 64 l) (length l)
+  first_shifted =
+      let e : 64 - length l ≡ suc (63 - length l) = omega arith in
+      let z = replicate {A = ℕ} (63 - length l) 0 in
+      record {
+        within = omega (arith, length_padded 63 l (omega arith));
+        whole =
+            ap (λ (n : ℕ). set (l ++ replicate n 0) (length l) v) e
+            ∙ set_at l 0 z v (length l) refl
+            ∙ ap₂ (λ (x y : List ℕ). x ++ v ∷ y) (sym (take_at l z (length l) refl)) (sym (drop_at l z (length l) refl));
+      }
+
+  -- where the lines from place k on, j of them, are moved, a store of v at place k would insert it there
+  moved_shifted : (j k : ℕ) → k + j ≡ length l → Shifted (padded 63 l) v (moved (padded 64 l) k j) k
+  moved_shifted zero k e =
+      let i : length l ≡ k = omega arith in
+      subst (λ (t : List ℕ). Shifted (padded 63 l) v t k) (sym (moved_none (padded 64 l) k)) (subst (Shifted (padded 63 l) v (padded 64 l)) i first_shifted)
+  moved_shifted (suc j) k e =
+      let t = moved (padded 64 l) (suc k) j in
+      let p : suc k - 1 ≡ k = omega arith in
+      subst (λ (x : List ℕ). Shifted (padded 63 l) v x k) (moved_suc (padded 64 l) k j (omega (arith, length_padded 64 l (omega arith))))
+      (subst (λ (i : ℕ). Shifted (padded 63 l) v (set t (suc k) (get_or t i 0)) i) p (shifted_on (padded 63 l) v t (suc k) (moved_shifted j (suc k) (omega arith)) (omega arith)))
 
 -- ---- one place further, the first one first
 
@@ -146,15 +210,10 @@ module _ (l : List ℕ) (v k : ℕ) (room : length l < 64) (o : k ≤ length l) 
   -- where they are copied one place further, and v is stored at place k
   copied_put : set (take (k + 1) (padded 64 l) ++ take (length l - k) (drop k (padded 64 l)) ++ drop (k + 1 + (length l - k)) (padded 64 l)) k v ≡ padded 64 (put k v l)
   copied_put =
-      let e : k + 1 + (length l - k) ≡ length l + 1 = omega arith in
-      let f : k < length (padded 64 l) = omega (arith, length_padded 64 l (omega arith)) in
-      ap₂ (λ (a b : List ℕ). set (a ++ b ++ drop (k + 1 + (length l - k)) (padded 64 l)) k v)
-      (ap (λ (n : ℕ). take n (padded 64 l)) (add-one k) ∙ take-suc (padded 64 l) k 0 f ∙ ap (λ (a : List ℕ). a ++ get_or (padded 64 l) k 0 ∷ []) front) lines
-      ∙ ap (λ (a : List ℕ). set ((take k l ++ get_or (padded 64 l) k 0 ∷ []) ++ drop k l ++ a) k v)
-      (ap₂ (λ (n : ℕ) (x : List ℕ). drop n x) e words ∙ drop-append-add l (0 ∷ behind) 1)
-      ∙ ap (λ (a : List ℕ). set a k v)
-      (append_assoc (take k l ++ get_or (padded 64 l) k 0 ∷ []) (drop k l) behind ∙ append_snoc (take k l) (get_or (padded 64 l) k 0) (drop k l ++ behind))
-      ∙ set_at (take k l) (get_or (padded 64 l) k 0) (drop k l ++ behind) v k (length-take-le k l o)
+      let e : k + 1 + (length l - k) ≡ suc (k + (length l - k)) = omega arith in
+      ap₂ (λ (i j : ℕ). set (take i (padded 64 l) ++ take (length l - k) (drop k (padded 64 l)) ++ drop j (padded 64 l)) k v) (add-one k) e
+      ∙ (moved_shifted l v room (length l - k) k (omega arith)).whole
+      ∙ ap₂ (λ (x y : List ℕ). x ++ v ∷ y) (take-append-le k l behind o) (drop-append-le k l behind o)
       ∙ held
 
 -- ---- an axis with room for one more
