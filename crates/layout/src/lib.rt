@@ -3,14 +3,14 @@
 // the leaf that it is shared with (32 or above: none).
 #![tactic(auto)]
 
-ghost use Rattle.std.specs.Prelude.{◌≡◌, cond, [], map, reverse, ℕ, ◌+◌, ◌≤◌, ◌<◌, length, get_or};
+ghost use Rattle.std.specs.Prelude.{◌≡◌, cond, List, [], map, reverse, ℕ, ◌+◌, ◌≤◌, ◌<◌, length, get_or};
 ghost use Rattle.network.specs.Plane.{gap};
 ghost use Rattle.network.specs.Steps.{hor, ver};
 ghost use Rattle.sharing.specs.View.{index};
 ghost use Rattle.sharing.specs.Leaf.{turn_if};
 ghost use Rattle.route.specs.Route.{dir_of};
 ghost use Rattle.table.specs.Side.{side_of};
-ghost use Rattle.table.specs.Walk.{moves_of};
+ghost use Rattle.table.specs.Walk.{trace_of, moves_of};
 ghost use Rattle.layout.specs.Points.{OnLines, number_of, points_of};
 ghost use Rattle.layout.specs.Stretch.{along_row, grown};
 ghost use Rattle.layout.specs.Way.{way_of, passes_forth, leg_of};
@@ -208,8 +208,9 @@ impl Points {
 // Writes the steps of a leaf by way of the stretch that it shares with the centre.
 fn leaf_route(centre: Points, leaf: Points, trace: &Trace, s: Stretch, to: &mut [u8])
     requires { (length trace.now.steps ≡ 128) × ((route_to to.old leaf).count ≤ length to.old)
-        × ((c : ℕ) × (k : ℕ) × Stretched centre leaf c (moves_of trace.now) k s) }
-    ensures { ((c k : ℕ) → Stretched centre leaf c (moves_of trace.now) k s → Laid centre leaf c (moves_of trace.now) k to.new) × (length to.new ≡ length to.old) }
+        × ((c : ℕ) × (k : ℕ) × (shares : List ℕ) × (count : ℕ) × Stretched centre leaf c (moves_of (trace_of trace.now.steps shares count)) k s) }
+    ensures { ((c k : ℕ) (shares : List ℕ) (count : ℕ) → Stretched centre leaf c (moves_of (trace_of trace.now.steps shares count)) k s
+        → Laid centre leaf c (moves_of (trace_of trace.now.steps shares count)) k to.new) × (length to.new ≡ length to.old) }
 {
     let from = s.from as usize;
     let size = s.size as usize;
@@ -236,7 +237,8 @@ fn extent(run: Ends) -> usize
     run.first.abs_diff(run.second) as usize
 }
 
-// Writes the steps of run k, with the index c of the centre. A leaf that shares nothing goes along the row, then the column.
+// Writes the steps of run k, with the index c of the centre, by the trace's steps, whatever shares go with them. A leaf that shares nothing goes along
+// the row, then the column.
 pub fn route_of(
     centre: Points,
     run: Points,
@@ -246,8 +248,10 @@ pub fn route_of(
     s: Stretch,
     to: &mut [u8],
 )
-    requires { (length trace.now.steps ≡ 128) × ((route_to to.old run).count ≤ length to.old) × Ready centre run c (moves_of trace.now) k s }
-    ensures { Laid centre run c (moves_of trace.now) k to.new × (length to.new ≡ length to.old) }
+    requires { (length trace.now.steps ≡ 128) × ((route_to to.old run).count ≤ length to.old)
+        × ((shares : List ℕ) × Ready centre run c (moves_of (trace_of trace.now.steps shares trace.now.count)) k s) }
+    ensures { ((shares : List ℕ) → Ready centre run c (moves_of (trace_of trace.now.steps shares trace.now.count)) k s
+        → Laid centre run c (moves_of (trace_of trace.now.steps shares trace.now.count)) k to.new) × (length to.new ≡ length to.old) }
 {
     if k == c {
         forth(to, 0, &trace.steps[..trace.count]);

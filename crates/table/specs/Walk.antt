@@ -93,6 +93,10 @@ begin = record { ver = false; run = false; edge = record { best = 0; run = 0; ow
 abbrev pub move_at : List ℕ → List ℕ → ℕ → Move
 move_at steps shares i = move_by (get_or steps i 0) (get_or shares i 0)
 
+-- the trace that two arrays hold
+abbrev pub trace_of : List ℕ → List ℕ → ℕ → Trace
+trace_of steps shares count = record { steps = steps; shares = shares; count = count }
+
 -- the moves that a trace holds, the first one first
 abbrev pub moves_of : Trace → List Move
 moves_of r = table (move_at r.steps r.shares) r.count

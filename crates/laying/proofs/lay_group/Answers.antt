@@ -1,6 +1,6 @@
 use mathlib.Core.Path.{◌≡◌, refl, sym, ap, ap₂, ◌∙◌, subst}
 use mathlib.Core.List.{List, [], ◌∷◌, ◌++◌}
-use Prim.Native.Nat.{ℕ, ◌+◌, ◌%◌, ◌≤◌}
+use Prim.Native.Nat.{ℕ, ◌+◌, ◌%◌, ◌≤◌, ◌<◌}
 use native.Mathlib.Nat.{mod-eq_of_lt}
 use lib.ListN.{length, get_or, get_or-replicate, length-set}
 use Rattle.network.specs.Steps.{hor, steps}
@@ -10,6 +10,8 @@ use Rattle.table.specs.Side.{Side, side_of}
 use Rattle.table.specs.declared.trace.Trace.{Trace}
 use Rattle.layout.specs.declared.Stretch.{Stretch}
 use Rattle.table.specs.Walk.{moves_of, move_by}
+use Rattle.layout.specs.Laid.{Ready}
+use Rattle.layout.specs.Points.{points_of}
 use Rattle.layout.specs.Stretch.{nothing}
 use Rattle.layout.proofs.Finding.{first_moves, moves_next, moves_length, moved_next, moved_few, stretch_few, AllFound, found_none, found_next, found_same}
 use Rattle.layout.proofs.Laying.{centre_few}
@@ -27,6 +29,13 @@ count_few c t g = centre_few _ c t (g.layable c g.centre g.own)
 -- behind the last move the stretches of all moves are found
 all_found : (t : Trace) (i : ℕ) (found : List Stretch) → i ≡ t.count → AllFound (first_moves t.steps t.shares i) found → AllFound (moves_of t) found
 all_found t i found e f = subst (λ n. AllFound (first_moves t.steps t.shares n) found) e f
+
+-- and a run of the group can be laid
+run_ready : {xs ys : Side} {n c : ℕ} {centres : List ℕ} (t : Trace) → GroupLayable xs ys n centres c (moves_of t) → (i : ℕ) (found : List Stretch) → i ≡ t.count
+    → AllFound (first_moves t.steps t.shares i) found → (k : ℕ) → k < n → get_or centres k 0 ≡ c
+    → Ready (points_of xs ys c) (points_of xs ys k) c (moves_of t) k (get_or found k nothing)
+run_ready t g i found e f k below own =
+    record { centre_layable = g.layable _ g.centre g.own; layable = g.layable _ below own; found = all_found t i found e f k (omega (arith, g.few)) }
 
 pub loop-i-init : goal.loop-i-init
 unfolding steps
@@ -93,7 +102,7 @@ route_of-requires c =
     rw (c.of-centre.ensures, c.of-run.ensures) (
       c.requires.2,
       omega (arith, r.enough l.k below, block_length _ _ _ _ _ r l.k below),
-      record { centre_layable = g.layable _ g.centre g.own; layable = g.layable _ below c.if-group-c.true; found = all_found c.args.trace.now c.loop-i.i _ (omega arith) c.loop-i.invariant.2 l.k (omega (arith, g.few)) },
+      (c.args.trace.now.shares, run_ready c.args.trace.now g c.loop-i.i _ (omega arith) c.loop-i.invariant.2 l.k below c.if-group-c.true),
     )
 
 pub loop-k-preserved : goal.loop-k-preserved
@@ -113,7 +122,8 @@ loop-k-preserved c =
           let size = w.route_of.ensures.1 ∙ block_length _ _ _ _ _ r l.k below in
           subst Next (sym w.routes-is) (
           laid_next _ _ _ _ _ w.if-group-c.true
-          (rw (block_here a.stride l.k l.routes new end size) (rw (c.of-centre.ensures, w.of-run.ensures) at w.route_of.ensures.0))
+          (rw (block_here a.stride l.k l.routes new end size) (rw (c.of-centre.ensures, w.of-run.ensures) at (w.route_of.ensures.0 a.trace.now.shares)
+          (run_ready a.trace.now g c.loop-i.i _ (omega arith) c.loop-i.invariant.2 l.k below w.if-group-c.true)))
           (block_there a.stride l.k l.routes new end size) l.invariant
           )
       | else-group-c w ↦ subst Next (sym w.routes-is) (laid_skip _ _ _ _ _ w.if-group-c.false l.invariant)
