@@ -46,13 +46,16 @@ impl Survey {
     }
 }
 
-// The sets with one more member, which has the bit given and is in none of them, at the frame's lines from lo to hi.
+// The sets with one more member, which has the bit given and is in none of them, at the frame's lines from lo to hi. They are few, and a `for` over
+// them would become a loop of four lines at a time and one for the rest.
 fn spread(t: &mut [Line; 64], bit: u32, lo: usize, hi: usize)
     requires { (length t.old ≡ 64) × (lo ≤ hi) × (hi < 64) × ((i : ℕ) → i ≤ hi → bit + (line_in t.old i).on < 2 ^ 32) }
     ensures { (length t.new ≡ 64) × ((i : ℕ) → (line_in t.new i).on ≡ cond (covers lo hi i) bit 0 + (line_in t.old i).on) }
 {
-    for i in lo..hi + 1 {
+    let mut i = lo;
+    while i <= hi {
         t[i].on = bit + t[i].on;
+        i += 1;
     }
 }
 
